@@ -1,170 +1,31 @@
 -- What every state that our calls can leave keeps (`Good`): an accepted opening gives it, and every call, refused or not, keeps it. Assumes nothing.
-use Prim.Native.Nat.{ℕ, zero, suc, _+_, _*_, _/_, _^_, _≤_, _<_}
+use Prim.Native.Nat.{ℕ, suc, _+_, _*_, _/_, _^_, _≤_, _<_}
 use mathlib.Core.Path.{_≡_, refl, sym, ap, _∙_, subst}
-use mathlib.Core.Logic.{_≢_, _↔_, inl, inr}
+use mathlib.Core.Logic.{_≢_, inl, inr}
 use mathlib.Core.Bool.{Bool, true, false, cond, not, _&&_, _||_, true≢false}
 use mathlib.Core.List.{List, [], _∷_, _++_, map}
 use native.Mathlib.Omega.{arith}
 use native.Mathlib.Decide.{ℕ-discrete, decLt}
-use native.Mathlib.Nat.{not-suc-le-zero, le-trans, lt-of-lt-of-le, mul-le-mul}
+use native.Mathlib.Nat.{not-suc-le-zero, lt-of-lt-of-le}
 use lib.ListN.{length, getD, set, length-set, length-map, length-replicate, getD-replicate, List·getD-eq-default}
-use lib.Pow.{pow-pos, pow-lt, pow-mono}
-use lib.Bits.{xor-lt}
-use lib.Dec.{eqb, ltb, leb, lit≤}
+use lib.Pow.{pow-mono}
+use lib.Dec.{eqb, ltb, leb}
 use borrow.Author.Tests.{ltb-false, leb-false, eqb-true, eqb-false, eq-eqb, not-false}
-use Rattle.model.specs.Pauli.{Pauli, times, shift, plain}
-use Rattle.model.specs.Frame.{Ops, Rows, Kind, kindX, kindY, kindZ, kindP, Gate, H, X, Y, Z, S, Sdg, Sx, Cnot, Cz, Swap, Cy, xAt, zAt, setX, setZ, gateH, gateS, gateZ, gateX, gateCnot, gateCz, gateSwap, gate, turnZ, turn, axis, paulis, from, pauliX, pauliZ, fresh}
+use Rattle.model.specs.Pauli.{Pauli, times}
+use Rattle.model.specs.Frame.{Rows, Kind, Gate, H, X, Y, Z, S, Sdg, Sx, Cnot, Cz, Swap, Cy, xAt, zAt, axis, paulis}
 use Rattle.model.specs.Sketch.{Label, sameLabel, labels, labelRows}
 use Rattle.model.specs.Events.{Body, rotation, blocker, Event, Form, scalar, sliced, Opening, State, plane, keep, some, words, noEvent, eventAt, liveAt, isRotation, record1, recordAll, blockerOn, killed, dead, factor, tidy, kill, clear}
 use Rattle.model.specs.Search.{listAt, hasLabel, sameAxis, look}
 use Rattle.model.specs.Store.{need, listCount}
 use Rattle.model.specs.Calls.{tooWide, openNumber, openAnswer, opened, opening, Call, callOpen, callGate, callTurn, callRecord, callMeasure, callReset, callCcx, callCcz, callKill, callRead, callClear, callLook, Lent, answer, twice, answerTo, gateQubits, notReadable, notKillable, reframed, rotationOf, seven, after, call, calls}
-use Rattle.model.specs.Demands.{Mem, Fits, labelOf, Labelled, Says}
-use Rattle.model.proofs.Invariant.{Sound, sound-gate, sound-turn, sound-fresh}
+use Rattle.model.specs.Demands.{Mem, Fits, labelOf, Labelled, Signed, Says}
+use Rattle.model.proofs.Invariant.{Sound, even-axis, sound-gate, sound-turn, sound-fresh}
+use Rattle.model.proofs.Products.{has-sign}
+use Rattle.model.proofs.Within.{Below, Within, below-times, within-gate, within-turn, within-axis, within-fresh}
 use Rattle.model.proofs.Labels.{labelOf-sets, Follows, follows-gate, follows-turn, follows-axis, follows-fresh, labelRows-length}
 use Rattle.model.proofs.Members.{clash, and-both, both-and, mem-some}
 use Rattle.model.proofs.Lists.{ListOk, ListsOk, push-length, at-old, at-new, length-new, gone, gone-at, gone-other, lists-record1, lists-kill, lists-clear}
 use Rattle.model.proofs.Looks.{matches, look-says}
-
--- ---- what is closed under products and turns holds of every row
-
-pub record All {A : Type 0} (o : Ops A) (P : A → Type 0) (r : Rows A) : Type 0 where
-  pub all-x : (q : ℕ) → P (xAt o r q)
-  pub all-z : (q : ℕ) → P (zAt o r q)
-
-module _ {A : Type 0} (o : Ops A) (P : A → Type 0) (pm : (a b : A) → P a → P b → P (o .mul a b)) (pt : (k : ℕ) (a : A) → P a → P (o .turned k a)) where
-  set-all : (l : List A) (i : ℕ) (a : A) → P a → ((j : ℕ) → P (getD l j (o .unit))) → (j : ℕ) → P (getD (set l i a) j (o .unit))
-  set-all [] i a p h j = h j
-  set-all (b ∷ l) zero a p h zero = p
-  set-all (b ∷ l) zero a p h (suc j) = h (suc j)
-  set-all (b ∷ l) (suc i) a p h zero = h 0
-  set-all (b ∷ l) (suc i) a p h (suc j) = set-all l i a p (λ m. h (suc m)) j
-
-  all-setX : (r : Rows A) (q : ℕ) (a : A) → All o P r → P a → All o P (setX r q a)
-  unfolding setX xAt zAt
-  all-setX r q a h p = record { all-x = set-all (r .xs) q a p (h .all-x); all-z = h .all-z }
-
-  all-setZ : (r : Rows A) (q : ℕ) (a : A) → All o P r → P a → All o P (setZ r q a)
-  unfolding setZ xAt zAt
-  all-setZ r q a h p = record { all-x = h .all-x; all-z = set-all (r .zs) q a p (h .all-z) }
-
-  all-H : (q : ℕ) (r : Rows A) → All o P r → All o P (gateH o q r)
-  unfolding gateH
-  all-H q r h = all-setZ _ q _ (all-setX r q _ h (h .all-z q)) (h .all-x q)
-
-  all-S : (k q : ℕ) (r : Rows A) → All o P r → All o P (gateS o k q r)
-  unfolding gateS
-  all-S k q r h = all-setX r q _ h (pt k _ (pm _ _ (h .all-x q) (h .all-z q)))
-
-  all-Z : (q : ℕ) (r : Rows A) → All o P r → All o P (gateZ o q r)
-  unfolding gateZ
-  all-Z q r h = all-setX r q _ h (pt 2 _ (h .all-x q))
-
-  all-X : (q : ℕ) (r : Rows A) → All o P r → All o P (gateX o q r)
-  unfolding gateX
-  all-X q r h = all-setZ r q _ h (pt 2 _ (h .all-z q))
-
-  all-Cnot : (c t : ℕ) (r : Rows A) → All o P r → All o P (gateCnot o c t r)
-  unfolding gateCnot
-  all-Cnot c t r h = all-setZ _ t _ (all-setX r c _ h (pm _ _ (h .all-x c) (h .all-x t))) (pm _ _ (h .all-z t) (h .all-z c))
-
-  all-Cz : (c t : ℕ) (r : Rows A) → All o P r → All o P (gateCz o c t r)
-  unfolding gateCz
-  all-Cz c t r h = all-setX _ t _ (all-setX r c _ h (pm _ _ (h .all-x c) (h .all-z t))) (pm _ _ (h .all-x t) (h .all-z c))
-
-  all-Swap : (a b : ℕ) (r : Rows A) → All o P r → All o P (gateSwap o a b r)
-  unfolding gateSwap
-  all-Swap a b r h = all-setZ _ b _ (all-setZ _ a _ (all-setX _ b _ (all-setX r a _ h (h .all-x b)) (h .all-x a)) (h .all-z b)) (h .all-z a)
-
-  all-gate : (g : Gate) (r : Rows A) → All o P r → All o P (gate o g r)
-  unfolding gate
-  all-gate (H q) r h = all-H q r h
-  all-gate (X q) r h = all-X q r h
-  all-gate (Y q) r h = all-Z q _ (all-X q r h)
-  all-gate (Z q) r h = all-Z q r h
-  all-gate (S q) r h = all-S 3 q r h
-  all-gate (Sdg q) r h = all-S 1 q r h
-  all-gate (Sx q) r h = all-H q _ (all-S 3 q _ (all-H q r h))
-  all-gate (Cnot c t) r h = all-Cnot c t r h
-  all-gate (Cz c t) r h = all-Cz c t r h
-  all-gate (Swap a b) r h = all-Swap a b r h
-  all-gate (Cy c t) r h = all-S 3 t _ (all-Cnot c t _ (all-S 1 t r h))
-
-  all-turnZ : (k q : ℕ) (r : Rows A) → All o P r → All o P (turnZ o k q r)
-  unfolding turnZ
-  all-turnZ k q r h = pick (eqb k 2) (all-S 3 q r h) (pick (eqb k 4) (all-Z q r h) (pick (eqb k 6) (all-S 1 q r h) h))
-    where
-      pick : {a b : Rows A} (t : Bool) → All o P a → All o P b → All o P (cond t a b)
-      pick true u v = u
-      pick false u v = v
-
-  all-turn : (kind : Kind) (k q : ℕ) (r : Rows A) → All o P r → All o P (turn o kind k q r)
-  unfolding turn
-  all-turn kindX k q r h = all-H q _ (all-turnZ k q _ (all-H q r h))
-  all-turn kindY k q r h = all-S 3 q _ (all-H q _ (all-turnZ k q _ (all-H q _ (all-S 1 q r h))))
-  all-turn kindZ k q r h = all-turnZ k q r h
-  all-turn kindP k q r h = all-turnZ k q r h
-
-  all-axis : (kind : Kind) (q : ℕ) (r : Rows A) → All o P r → P (axis o kind q r)
-  unfolding axis
-  all-axis kindX q r h = h .all-x q
-  all-axis kindY q r h = pt 1 _ (pm _ _ (h .all-x q) (h .all-z q))
-  all-axis kindZ q r h = h .all-z q
-  all-axis kindP q r h = h .all-z q
-
--- ---- rows over n qubits
-
-abbrev Below : ℕ → Pauli → Type 0
-Below n p = (p .x < 2 ^ n) × (p .z < 2 ^ n)
-
-below-times : (n : ℕ) (a b : Pauli) → Below n a → Below n b → Below n (times a b)
-unfolding times
-below-times n a b h k = (xor-lt n (a .x) (b .x) (h .0) (k .0), xor-lt n (a .z) (b .z) (h .1) (k .1))
-
-below-shift : (n k : ℕ) (a : Pauli) → Below n a → Below n (shift k a)
-unfolding shift
-below-shift n k a h = h
-
--- every row's sets are of the n qubits
-abbrev pub Within : ℕ → Rows Pauli → Type 0
-Within n r = All paulis (Below n) r
-
-within-gate : (n : ℕ) (g : Gate) (r : Rows Pauli) → Within n r → Within n (gate paulis g r)
-unfolding paulis
-within-gate n = all-gate paulis (Below n) (below-times n) (below-shift n)
-
-within-turn : (n : ℕ) (kind : Kind) (k q : ℕ) (r : Rows Pauli) → Within n r → Within n (turn paulis kind k q r)
-unfolding paulis
-within-turn n = all-turn paulis (Below n) (below-times n) (below-shift n)
-
-within-axis : (n : ℕ) (kind : Kind) (q : ℕ) (r : Rows Pauli) → Within n r → Below n (axis paulis kind q r)
-unfolding paulis
-within-axis n = all-axis paulis (Below n) (below-times n) (below-shift n)
-
-below-x : (n q : ℕ) → q < n → Below n (pauliX q)
-unfolding pauliX
-below-x n q h = (pow-lt h, pow-pos n)
-
-below-z : (n q : ℕ) → q < n → Below n (pauliZ q)
-unfolding pauliZ
-below-z n q h = (pow-pos n, pow-lt h)
-
-below-plain : (n : ℕ) → Below n plain
-unfolding plain
-below-plain n = (pow-pos n, pow-pos n)
-
-getD-all : (P : Pauli → Type 0) (f : ℕ → Pauli) (d : Pauli) → P d → (k n q : ℕ) → ((i : ℕ) → i < k + n → P (f i)) → P (getD (map f (from k n)) q d)
-unfolding from
-getD-all P f d p k zero q h = p
-getD-all P f d p k (suc n) zero h = h k (omega arith)
-getD-all P f d p k (suc n) (suc q) h = getD-all P f d p (suc k) n q (λ i u. h i (omega arith))
-
-within-fresh : (n : ℕ) → Within n (fresh n)
-unfolding fresh xAt zAt paulis
-within-fresh n = record {
-  all-x = (λ q. getD-all (Below n) pauliX plain (below-plain n) 0 n q (λ i u. below-x n i (omega arith)));
-  all-z = (λ q. getD-all (Below n) pauliZ plain (below-plain n) 0 n q (λ i u. below-z n i (omega arith)));
-}
 
 -- ---- events
 
@@ -172,6 +33,7 @@ pub record EventOk (o : Rows Label) (n : ℕ) (e : Event) : Type 0 where
   pub small-x : e .x < 2 ^ n
   pub small-z : e .z < 2 ^ n
   pub labelled : Labelled o (e .x) (e .z) (e .body)
+  pub signed : Signed (e .body)
 
 -- the most lists that a form has
 unfoldable pub limit : Form → ℕ
@@ -368,7 +230,7 @@ good-kill s id g h = record {
     same-length = length-set (s .events) id (killed (eventAt (s .events) id))
 
     dead-ok : (e : Event) → EventOk (origin s) (s .given .n) e → EventOk (origin s) (s .given .n) (killed e)
-    dead-ok e k = record { small-x = k .small-x; small-z = k .small-z; labelled = k .labelled }
+    dead-ok e k = record { small-x = k .small-x; small-z = k .small-z; labelled = k .labelled; signed = k .signed }
 
     go : (i : ℕ) → i < length (s .events) → Dec (i ≡ id) → EventOk (origin s) (s .given .n) (eventAt es i)
     go i u (yes q) = rw (q, gone-at (s .events) id h) (dead-ok _ (g .each id h))
@@ -390,12 +252,13 @@ good-clear s g = record {
 
 -- the events that calls record
 
-axis-ok : (s : State) (kind : Kind) (q tag : ℕ) → Good s → EventOk (origin s) (s .given .n) (rotationOf kind q tag s)
+axis-ok : (s : State) (kind : Kind) (q tag : ℕ) → Good s → q < s .given .n → EventOk (origin s) (s .given .n) (rotationOf kind q tag s)
 unfolding rotationOf
-axis-ok s kind q tag g = record {
+axis-ok s kind q tag g h = record {
   small-x = b .0;
   small-z = b .1;
   labelled = follows-axis (origin s) (s .frame) (s .sketch) kind q (g .follows) ∙ labelOf-sets (origin s) _ _ refl refl;
+  signed = has-sign (axis paulis kind q (s .frame)) (even-axis (s .given .n) (s .frame) kind q (g .sound) h);
 }
   where
     b : Below (s .given .n) (axis paulis kind q (s .frame))
@@ -403,7 +266,7 @@ axis-ok s kind q tag g = record {
 
 blocker-ok : (o : Rows Label) (n : ℕ) (p : Pauli) → Below n p → EventOk o n (blockerOn p)
 unfolding blockerOn
-blocker-ok o n p b = record { small-x = b .0; small-z = b .1; labelled = tt }
+blocker-ok o n p b = record { small-x = b .0; small-z = b .1; labelled = tt; signed = tt }
 
 seven-ok : (o : Rows Label) (n : ℕ) (a b t : Pauli) → Below n a → Below n b → Below n t → AllOk o n (map blockerOn (seven a b t))
 unfolding seven blockerOn
@@ -543,7 +406,8 @@ good-after s (callTurn kind k q) w g h =
     good-frame s _ _ g (sound-turn (s .given .n) (s .frame) kind k q (g .sound) (inside-mem (s .given .n) q (q ∷ []) (a .inside) (inl refl)))
     (within-turn (s .given .n) kind k q (s .frame) (g .within)) (follows-turn (origin s) (s .frame) (s .sketch) kind k q (g .follows))
 good-after s (callRecord kind q tag) w g h =
-    good-record1 s (rotationOf kind q tag s) g (axis-ok s kind q tag g) (unfold rotationOf in refl) (passed s w 0 (q ∷ []) 1 false h .fits)
+    let a : Passed s w (q ∷ []) 1 false = passed s w 0 (q ∷ []) 1 false h in
+    good-record1 s (rotationOf kind q tag s) g (axis-ok s kind q tag g (inside-mem (s .given .n) q (q ∷ []) (a .inside) (inl refl))) (unfold rotationOf in refl) (a .fits)
 good-after s (callMeasure q) w g h =
     good-record1 s _ g (blocker-ok (origin s) (s .given .n) _ (g .within .all-z q)) (unfold blockerOn in refl) (passed s w 0 (q ∷ []) 1 false h .fits)
 good-after s (callReset q) w g h =
@@ -578,37 +442,3 @@ good-calls (c ∷ cs) s g = good-calls cs (call (c .call) (c .store) s) (good-ca
 -- every state that our calls can leave since an opening
 pub reached : (o : Opening) → openAnswer o ≡ 0 → (cs : List Lent) → Good (calls cs (opened o))
 reached o h cs = good-calls cs (opened o) (good-open o h)
-
--- ---- the limit on n in numbers
-
-pub frame-limit : (n : ℕ) → n ≤ 23168 ↔ 4 * n * words n ≤ 2 ^ 25
-unfolding words
-frame-limit n = (down, up)
-  where
-    down : n ≤ 23168 → 4 * n * ((n + 63) / 64) ≤ 2 ^ 25
-    down h = le-trans (mul-le-mul (four h) (few-words h)) (lit≤ tt)
-      where
-        four : n ≤ 23168 → 4 * n ≤ 92672
-        four h = omega arith
-
-        few-words : n ≤ 23168 → (n + 63) / 64 ≤ 362
-        few-words h = omega arith
-
-    over : 23169 ≤ n → 33641388 ≤ 4 * n * ((n + 63) / 64)
-    over h = mul-le-mul (four h) (many-words h)
-      where
-        four : 23169 ≤ n → 92676 ≤ 4 * n
-        four h = omega arith
-
-        many-words : 23169 ≤ n → 363 ≤ (n + 63) / 64
-        many-words h = omega arith
-
-    up : 4 * n * ((n + 63) / 64) ≤ 2 ^ 25 → n ≤ 23168
-    up h = go (decLt 23168 n)
-      where
-        go : Dec (23168 < n) → n ≤ 23168
-        go (yes u) = absurd (wrong (4 * n * ((n + 63) / 64)) (over u) h)
-          where
-            wrong : (w : ℕ) → 33641388 ≤ w → w ≤ 2 ^ 25 → ⊥
-            wrong w a b = omega arith
-        go (no u) = omega arith

@@ -359,6 +359,27 @@ module _ (n : ℕ) (r : Rows Pauli) (s : Sound n r) (q : ℕ) (hq : q < n) where
 -- ---- the gates on two qubits
 
 module _ (n : ℕ) (r : Rows Pauli) (s : Sound n r) (c t : ℕ) (hc : c < n) (ht : t < n) (ct : c ≢ t) where
+  abbrev xc : Pauli
+  xc = xAt paulis r c
+
+  abbrev zc : Pauli
+  zc = zAt paulis r c
+
+  abbrev xt : Pauli
+  xt = xAt paulis r t
+
+  abbrev zt : Pauli
+  zt = zAt paulis r t
+
+  oc : Own xc zc
+  oc = s .own c hc
+
+  ot : Own xt zt
+  ot = s .own t ht
+
+  f : Free xc zc xt zt
+  f = s .free c t hc ht ct
+
   pub sound-Cz : Sound n (gateCz paulis c t r)
   unfolding gateCz paulis
   sound-Cz =
@@ -385,27 +406,6 @@ module _ (n : ℕ) (r : Rows Pauli) (s : Sound n r) (c t : ℕ) (hc : c < n) (ht
         zz = k .zz;
       }))
     where
-      xc : Pauli
-      xc = xAt paulis r c
-
-      zc : Pauli
-      zc = zAt paulis r c
-
-      xt : Pauli
-      xt = xAt paulis r t
-
-      zt : Pauli
-      zt = zAt paulis r t
-
-      oc : Own xc zc
-      oc = s .own c hc
-
-      ot : Own xt zt
-      ot = s .own t ht
-
-      f : Free xc zc xt zt
-      f = s .free c t hc ht ct
-
       same : put t (times xt zc) zt (put c (times xc zt) zc r) ≡ setX (setX r c (times xc zt)) t (times xt zc)
       same =
           ap (put t (times xt zc) zt) (put-setX r c (times xc zt))
@@ -438,27 +438,6 @@ module _ (n : ℕ) (r : Rows Pauli) (s : Sound n r) (c t : ℕ) (hc : c < n) (ht
         zz = sum00 (anti-times zt zc v) (k .zz) (h .zz);
       }))
     where
-      xc : Pauli
-      xc = xAt paulis r c
-
-      zc : Pauli
-      zc = zAt paulis r c
-
-      xt : Pauli
-      xt = xAt paulis r t
-
-      zt : Pauli
-      zt = zAt paulis r t
-
-      oc : Own xc zc
-      oc = s .own c hc
-
-      ot : Own xt zt
-      ot = s .own t ht
-
-      f : Free xc zc xt zt
-      f = s .free c t hc ht ct
-
       same : put t xt (times zt zc) (put c (times xc xt) zc r) ≡ setZ (setX r c (times xc xt)) t (times zt zc)
       same =
           ap (put t xt (times zt zc)) (put-setX r c (times xc xt))

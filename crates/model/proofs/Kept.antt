@@ -1,7 +1,7 @@
--- What a good state keeps, in the words of `Demands`: its frame, its labels and its lists. Assumes nothing.
+-- What a good state keeps, in the words of `Demands`: its frame, its labels, its lists and its signs. Assumes nothing.
 use Prim.Native.Nat.{ℕ, _*_, _%_, _^_, _≤_, _<_}
 use mathlib.Core.Path.{_≡_, refl, sym, ap, _∙_, subst}
-use mathlib.Core.Bool.{true, false, not}
+use mathlib.Core.Bool.{true, false, not, false≢true}
 use mathlib.Core.List.{List, []}
 use native.Mathlib.Omega.{arith}
 use native.Mathlib.Decide.{ℕ-discrete, decLt}
@@ -9,20 +9,21 @@ use native.Mathlib.Nat.{div-eq-of-lt, zero-mod, lt-of-lt-of-le, mul-le-mul-left}
 use lib.ListN.{length, List·getD-eq-default}
 use lib.Pow.{pow-mono}
 use lib.Bits.{or-lt}
+use lib.IntN.{ℤ}
 use lib.Dec.{eqb}
 use borrow.Author.Tests.{ne-eqb}
-use Rattle.model.specs.Frame.{Rows, xAt, zAt, paulis}
+use Rattle.model.specs.Frame.{Rows, Kind, xAt, zAt, axis, paulis}
 use Rattle.model.specs.Pauli.{Pauli, anti}
-use Rattle.model.specs.Events.{Form, scalar, sliced, State, plane, keep, touches, eventAt, liveAt, dead, factor}
-use Rattle.model.specs.Search.{listAt}
-use Rattle.model.specs.Demands.{Mem, Rising, Paired, Sketched, occurs, Share, Listed}
+use Rattle.model.specs.Events.{Body, rotation, blocker, isRotation, Form, scalar, sliced, State, plane, keep, touches, eventAt, liveAt, dead, factor}
+use Rattle.model.specs.Search.{listAt, signAt, found, look}
+use Rattle.model.specs.Demands.{Mem, Rising, IsSign, Signed, Match, Named, Says, Paired, Sketched, occurs, Share, Listed}
 use Rattle.model.proofs.Parity.{anti-comm, anti-self}
-use Rattle.model.proofs.Products.{has-sign, sign-quarter}
-use Rattle.model.proofs.Invariant.{Sound}
+use Rattle.model.proofs.Products.{has-sign, sign-quarter, sign-sign}
+use Rattle.model.proofs.Invariant.{Sound, even-axis}
 use Rattle.model.proofs.Labels.{follows-x, follows-z, follows-axis}
 use Rattle.model.proofs.Members.{clash, keep-none}
 use Rattle.model.proofs.Lists.{ListOk, once}
-use Rattle.model.proofs.Good.{Good, origin, live-there}
+use Rattle.model.proofs.Good.{Good, origin, live-there, good-look}
 
 -- ---- the frame: an even quarter is a sign
 
@@ -136,3 +137,19 @@ module _ (s : State) (g : Good s) where
       empty : (f : Form) → Share f 0 0
       empty scalar = omega arith
       empty sliced = omega arith
+
+-- ---- signs
+
+rotation-signed : (b : Body) → isRotation b ≡ true → Signed b → IsSign (signAt b)
+unfolding isRotation signAt
+rotation-signed (rotation tag sgn label) r h = h
+rotation-signed blocker r h = absurd (false≢true r)
+
+pub look-sign : (s : State) → Good s → (kind : Kind) (q id steps : ℕ) (g : ℤ) → q < s .given .n → look kind q s ≡ found id g steps → IsSign g
+look-sign s good kind q id steps g there e =
+    let p : Pauli = axis paulis kind q (s .frame) in
+    let n : Named s p id g = subst (Says s p) e (good-look s good kind q) in
+    let m : Match s p id = n .newest .match in
+    rw (n .relative)
+    (sign-sign _ _ (rotation-signed (eventAt (s .events) id .body) (m .rotation) (good .each id (m .there) .signed))
+    (has-sign p (even-axis (s .given .n) (s .frame) kind q (good .sound) there)))

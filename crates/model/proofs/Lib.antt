@@ -2,11 +2,13 @@
 pub mod Theorems
 -- 1: computed.
 pub mod Cases
--- 2, 3: counts and exclusive or; their parity, and anticommutation; products and signs; every gate and turn keeps the frame.
+-- 2, 3: counts and exclusive or; their parity, and anticommutation; products and signs; every gate and turn keeps the frame, and its
+-- rows within the qubits.
 pub mod Counts
 pub mod Parity
 pub mod Products
 pub mod Invariant
+pub mod Within
 -- 4: the sketch's labels are those of the exact rows.
 pub mod Labels
 -- The signature by qubits.
@@ -25,5 +27,5 @@ pub mod Exact
 pub mod Enough
 -- 8: two openings.
 pub mod Twins
--- 9: the store's need.
+-- 9: sizes and the store's need.
 pub mod Room

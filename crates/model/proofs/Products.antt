@@ -5,10 +5,10 @@ use mathlib.Core.Logic.{_⊎_, inl, inr}
 use native.Mathlib.Nat.{mod-lt}
 use native.Mathlib.Omega.{arith}
 use lib.Bits.{bitAnd, bitXor, and-comm, xor-self}
-use lib.IntN.{ℤ, pos, negsuc, _*ℤ_}
+use lib.IntN.{ℤ, pos, _*ℤ_}
 use lib.Dec.{lit<}
 use Rattle.model.specs.Pauli.{Pauli, count, times, quarter, signOf, sign, anti}
-use Rattle.model.specs.Demands.{HasSign, positive}
+use Rattle.model.specs.Demands.{IsSign, HasSign, positive}
 use Rattle.model.proofs.Counts.{xor-assoc, count-zero}
 use Rattle.model.proofs.Parity.{parity, parity-r, anti-self, quarter-times}
 
@@ -133,17 +133,17 @@ mod-even : (k : ℕ) → Even k → k % 2 ≡ 0
 mod-even k (inl e) = ap (λ (w : ℕ). w % 2) e
 mod-even k (inr e) = ap (λ (w : ℕ). w % 2) e
 
-even-sign : (k : ℕ) → Even k → (signOf k ≡ pos 1) ⊎ (signOf k ≡ negsuc 0)
+even-sign : (k : ℕ) → Even k → IsSign (signOf k)
 unfolding signOf
 even-sign k (inl e) = inl (ap signOf e)
 even-sign k (inr e) = inr (ap signOf e)
 
 -- pos 0 is no sign
-no-sign : (pos 0 ≡ pos 1) ⊎ (pos 0 ≡ negsuc 0) → ⊥
+no-sign : IsSign (pos 0) → ⊥
 no-sign (inl e) = let z : _≡_ {A = ℕ} 0 1 = cc in omega arith
 no-sign (inr e) = let z : _≡_ {A = ℕ} 0 1 = cc in omega arith
 
-sign-even : (k : ℕ) → (signOf k ≡ pos 1) ⊎ (signOf k ≡ negsuc 0) → Even k
+sign-even : (k : ℕ) → IsSign (signOf k) → Even k
 unfolding signOf
 sign-even zero h = inl refl
 sign-even (suc zero) h = absurd (no-sign h)
@@ -188,6 +188,13 @@ product-sign a b h k e = has-sign (times a b) (law (quarter a) (quarter b) (anti
     law : (p q t r : ℕ) → r % 2 ≡ (p + q + t) % 2 → p % 2 ≡ 0 → q % 2 ≡ 0 → t ≡ 0 → r % 2 ≡ 0
     law p q t r h j k e = omega arith
 
+-- the product of two signs is a sign
+pub sign-sign : (g h : ℤ) → IsSign g → IsSign h → IsSign (g *ℤ h)
+sign-sign g h (inl e) (inl f) = inl (rw (e, f))
+sign-sign g h (inl e) (inr f) = inr (rw (e, f))
+sign-sign g h (inr e) (inl f) = inr (rw (e, f))
+sign-sign g h (inr e) (inr f) = inl (rw (e, f))
+
 positive-sign : (p : Pauli) → HasSign (positive p)
 positive-sign p = inl (sign-positive p)
 
@@ -231,7 +238,7 @@ sign-same a b ex ez h k = (
     idle : sign (times (positive a) (positive b)) ≡ pos 1
     idle = unfold sign signOf in ap (λ (w : Pauli). signOf (quarter (times (positive a) w))) one ∙ ap signOf (same-quarter a)
 
-    times-one : (m n k : ℤ) → (m ≡ pos 1) ⊎ (m ≡ negsuc 0) → (n ≡ pos 1) ⊎ (n ≡ negsuc 0) → k ≡ pos 1 → m *ℤ n *ℤ k ≡ m *ℤ n
+    times-one : (m n k : ℤ) → IsSign m → IsSign n → k ≡ pos 1 → m *ℤ n *ℤ k ≡ m *ℤ n
     times-one m n k (inl e) (inl f) g = rw (e, f, g)
     times-one m n k (inl e) (inr f) g = rw (e, f, g)
     times-one m n k (inr e) (inl f) g = rw (e, f, g)

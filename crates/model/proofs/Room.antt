@@ -1,9 +1,13 @@
--- The store's need is within the bound that 01 sets, for every n and E in both forms, up to the qubits that the sliced form takes. Assumes nothing.
-use Prim.Native.Nat.{ℕ, _+_, _*_, _/_, _≤_}
+-- Sizes: the limit on n in numbers, and that the store's need is within the bound that 01 sets, for every n and E in both forms, up to the qubits
+-- that the sliced form takes. Assumes nothing.
+use Prim.Native.Nat.{ℕ, _+_, _*_, _/_, _^_, _≤_, _<_}
 use mathlib.Core.Path.{_≡_, sym, ap, _∙_}
+use mathlib.Core.Logic.{_↔_}
 use mathlib.Core.Bool.{false}
 use native.Mathlib.Nat.{mul-le-mul, mul-le-mul-right, mul-add, add-mul, mul-assoc, le-trans}
 use native.Mathlib.Omega.{arith}
+use native.Mathlib.Decide.{decLt}
+use lib.Dec.{lit≤}
 use borrow.Author.Tests.{ltb-false}
 use Rattle.model.specs.Events.{Form, scalar, sliced, words}
 use Rattle.model.specs.Store.{headerRoom, frameRoom, sketchRoom, listCount, countRoom, chainRoom, eventRoom, liveRoom, axisRoom, listRoom, need, roof}
@@ -34,3 +38,37 @@ need-roof n E sliced h =
   where
     small : n ≤ 32
     small = ltb-false 32 n h
+
+-- ---- the limit on n in numbers
+
+pub frame-limit : (n : ℕ) → n ≤ 23168 ↔ 4 * n * words n ≤ 2 ^ 25
+unfolding words
+frame-limit n = (down, up)
+  where
+    down : n ≤ 23168 → 4 * n * ((n + 63) / 64) ≤ 2 ^ 25
+    down h = le-trans (mul-le-mul (four h) (few-words h)) (lit≤ tt)
+      where
+        four : n ≤ 23168 → 4 * n ≤ 92672
+        four h = omega arith
+
+        few-words : n ≤ 23168 → (n + 63) / 64 ≤ 362
+        few-words h = omega arith
+
+    over : 23169 ≤ n → 33641388 ≤ 4 * n * ((n + 63) / 64)
+    over h = mul-le-mul (four h) (many-words h)
+      where
+        four : 23169 ≤ n → 92676 ≤ 4 * n
+        four h = omega arith
+
+        many-words : 23169 ≤ n → 363 ≤ (n + 63) / 64
+        many-words h = omega arith
+
+    up : 4 * n * ((n + 63) / 64) ≤ 2 ^ 25 → n ≤ 23168
+    up h = go (decLt 23168 n)
+      where
+        go : Dec (23168 < n) → n ≤ 23168
+        go (yes u) = absurd (wrong (4 * n * ((n + 63) / 64)) (over u) h)
+          where
+            wrong : (w : ℕ) → 33641388 ≤ w → w ≤ 2 ^ 25 → ⊥
+            wrong w a b = omega arith
+        go (no u) = omega arith

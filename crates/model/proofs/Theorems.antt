@@ -15,10 +15,10 @@ use Rattle.model.specs.Pauli.{Pauli, has, count, times, sign, anti}
 use Rattle.model.specs.Frame.{Rows, Kind, Gate, gate, turn, axis, paulis, fresh}
 use Rattle.model.specs.Sketch.{Label, labels}
 use Rattle.model.specs.Events.{Body, rotation, Opening, State, words, plane, touches, eventAt, tidy, kill}
-use Rattle.model.specs.Search.{listAt, look}
+use Rattle.model.specs.Search.{listAt, found, look}
 use Rattle.model.specs.Store.{need, roof}
 use Rattle.model.specs.Calls.{openAnswer, opened, Call, Lent, answerTo, after, call, calls, replies, tally}
-use Rattle.model.specs.Demands.{HasSign, positive, Paired, Fits, Labelled, Sketched, Listed, Says, living, NotOut, Exactly, SameReplies}
+use Rattle.model.specs.Demands.{IsSign, HasSign, Signed, positive, Paired, Fits, Labelled, Sketched, Listed, Says, living, NotOut, Exactly, SameReplies}
 use Rattle.model.proofs.Cases.{Cases, cases}
 use Rattle.model.proofs.Counts.{count-ones}
 use Rattle.model.proofs.Parity.{anti-times, anti-comm}
@@ -27,12 +27,12 @@ use Rattle.model.proofs.Invariant.{sound-fresh, sound-gate, sound-turn,
 use Rattle.model.proofs.Labels.{labelOf-sets}
 use Rattle.model.proofs.Signature.{signature-bit}
 use Rattle.model.proofs.Lists.{kill-list}
-use Rattle.model.proofs.Good.{origin, reached, good-look, opens, frame-limit}
-use Rattle.model.proofs.Kept.{paired, unpaired, sketched, listed}
+use Rattle.model.proofs.Good.{origin, reached, good-look, opens}
+use Rattle.model.proofs.Kept.{paired, unpaired, sketched, listed, look-sign}
 use Rattle.model.proofs.Exact.{exact}
 use Rattle.model.proofs.Enough.{never-out, tally-live}
 use Rattle.model.proofs.Twins.{twin-openings}
-use Rattle.model.proofs.Room.{need-roof}
+use Rattle.model.proofs.Room.{frame-limit, need-roof}
 
 -- ---- demand 1: "such a refusal changes no word"
 
@@ -112,6 +112,15 @@ look-true o h cs kind q = good-look (calls cs (opened o)) (reached o h cs) kind 
 pub look-exact : (o : Opening) → openAnswer o ≡ 0 → (cs : List Lent) → let s : State = calls cs (opened o) in
     (kind : Kind) (q : ℕ) → NotOut (look kind q s) → Exactly s (axis paulis kind q (s .frame)) (look kind q s)
 look-exact o h cs kind q n = exact _ _ _ (look-true o h cs kind q) n
+
+-- "the relative sign, the product of both signs, +1 or -1"; and what a read gives of a rotation
+pub signs-kept : (o : Opening) → openAnswer o ≡ 0 → (cs : List Lent) → let s : State = calls cs (opened o) in
+    (i : ℕ) → i < length (s .events) → Signed (eventAt (s .events) i .body)
+signs-kept o h cs i there = reached o h cs .each i there .signed
+
+pub look-signed : (o : Opening) → openAnswer o ≡ 0 → (cs : List Lent) → let s : State = calls cs (opened o) in
+    (kind : Kind) (q id steps : ℕ) (g : ℤ) → q < s .given .n → look kind q s ≡ found id g steps → IsSign g
+look-signed o h cs = look-sign (calls cs (opened o)) (reached o h cs)
 
 -- ---- 7. demand 3: "with at most 12,000 live events and 1,048,576 steps no search runs out"
 

@@ -28,9 +28,18 @@ Rising (a ∷ s) = ((i : ℕ) → Mem i s → a < i) × Rising s
 
 -- ---- demand 2: frames and signs
 
+-- "+1 or -1"
+abbrev pub IsSign : ℤ → Type 0
+IsSign g = (g ≡ pos 1) ⊎ (g ≡ negsuc 0)
+
 -- "0 gives +1, 2 gives -1, and 1 or 3 never occurs."
 abbrev pub HasSign : Pauli → Type 0
-HasSign p = (sign p ≡ pos 1) ⊎ (sign p ≡ negsuc 0)
+HasSign p = IsSign (sign p)
+
+-- a rotation keeps a sign
+abbrev pub Signed : Body → Type 0
+Signed (rotation tag sgn label) = IsSign sgn
+Signed blocker = Unit {0}
 
 -- The row of the same axis whose sign is +1: i for each qubit in both sets.
 unfoldable pub positive : Pauli → Pauli
