@@ -7,7 +7,7 @@ use native.Mathlib.Omega.{arith}
 use lib.Arith.{bin-ind}
 use lib.Dec.{lit<}
 use lib.Pow.{pow-pos}
-use lib.Bits.{bitAnd, bitXor, and-mod, and-shr, xor-mod, xor-shr}
+use lib.Bits.{bitAnd, bitXor, and-mod, and-shr, xor-mod, xor-shr, xor-comm}
 use lib.Count.{ones, onesIn, ones-step, ones-cat}
 use Rattle.model.specs.Pauli.{countIn, count}
 
@@ -65,7 +65,7 @@ count-and a b = count-step (bitAnd a b) ∙ ap₂ (λ (x y : ℕ). x + count y) 
 
 -- ---- exclusive or
 
-half-ext : (n m : ℕ) → n / 2 ≡ m / 2 → n % 2 ≡ m % 2 → n ≡ m
+pub half-ext : (n m : ℕ) → n / 2 ≡ m / 2 → n % 2 ≡ m % 2 → n ≡ m
 half-ext n m h k = omega arith
 
 xor-digits : (a b c : ℕ) → bitXor (bitXor (a % 2) (b % 2)) (c % 2) ≡ bitXor (a % 2) (bitXor (b % 2) (c % 2))
@@ -82,3 +82,9 @@ xor-assoc =
     ∙ sym (xor-shr a (bitXor b c) 1 ∙ ap (bitXor (a / 2)) (xor-shr b c 1)))
     (xor-mod (bitXor a b) c 1 ∙ ap (λ (w : ℕ). bitXor w (c % 2)) (xor-mod a b 1) ∙ xor-digits a b c
     ∙ sym (xor-mod a (bitXor b c) 1 ∙ ap (bitXor (a % 2)) (xor-mod b c 1))))
+
+pub xor-four : (a b c d : ℕ) → bitXor (bitXor a b) (bitXor c d) ≡ bitXor (bitXor a c) (bitXor b d)
+xor-four a b c d =
+    xor-assoc a b (bitXor c d)
+    ∙ ap (bitXor a) (sym (xor-assoc b c d) ∙ ap (λ (w : ℕ). bitXor w d) (xor-comm b c) ∙ xor-assoc c b d)
+    ∙ sym (xor-assoc a c (bitXor b d))

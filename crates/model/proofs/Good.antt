@@ -140,7 +140,7 @@ passed s w turnBy qubits records bad h =
       fine = f .0;
     }
 
-inside-mem : (n q : ℕ) (qs : List ℕ) → some (leb n) qs ≡ false → Mem q qs → q < n
+pub inside-mem : (n q : ℕ) (qs : List ℕ) → some (leb n) qs ≡ false → Mem q qs → q < n
 inside-mem n q qs h m = go (leb n q) refl
   where
     go : (t : Bool) → leb n q ≡ t → q < n
@@ -151,7 +151,7 @@ two-differ : (a b : ℕ) → twice (a ∷ b ∷ []) ≡ false → a ≢ b
 unfolding twice some
 two-differ a b h e = clash (twice (a ∷ b ∷ [])) (ap (λ (t : Bool). cond t true false || (false || false)) (eq-eqb a b e)) h
 
-gate-fits : (n : ℕ) (g : Gate) → some (leb n) (gateQubits g) ≡ false → twice (gateQubits g) ≡ false → Fits n g
+pub gate-fits : (n : ℕ) (g : Gate) → some (leb n) (gateQubits g) ≡ false → twice (gateQubits g) ≡ false → Fits n g
 unfolding gateQubits
 gate-fits n (H q) h k = inside-mem n q (q ∷ []) h (inl refl)
 gate-fits n (X q) h k = inside-mem n q (q ∷ []) h (inl refl)
@@ -300,7 +300,7 @@ or-false : (a b : Bool) → (a || b) ≡ false → (a ≡ false) × (b ≡ false
 or-false true b h = absurd (true≢false h)
 or-false false b h = (refl, h)
 
-kill-there : (es : List Event) (id : ℕ) → notKillable es id ≡ false → id < length es
+pub kill-there : (es : List Event) (id : ℕ) → notKillable es id ≡ false → id < length es
 unfolding notKillable notReadable
 kill-there es id h = leb-false (length es) id (or-false (leb (length es) id) _ (or-false (leb (length es) id || not (isRotation (eventAt es id .body))) _ h .0) .0)
 

@@ -139,31 +139,31 @@ unfolding setZ zAt
 setZ-same r q = λ i. record { xs = r .xs; zs = set-getD (r .zs) q (paulis .unit) i }
 
 -- both rows of qubit q, anew
-put : ℕ → Pauli → Pauli → Rows Pauli → Rows Pauli
+pub put : ℕ → Pauli → Pauli → Rows Pauli → Rows Pauli
 put q a b r = setZ (setX r q a) q b
 
 module _ (n : ℕ) (r : Rows Pauli) (hx : length (r .xs) ≡ n) (hz : length (r .zs) ≡ n) (q : ℕ) (hq : q < n) (a b : Pauli) where
-  put-x : xAt paulis (put q a b r) q ≡ a
+  pub put-x : xAt paulis (put q a b r) q ≡ a
   unfolding put
   put-x = setZ-x (setX r q a) q q b ∙ setX-x r q a (omega arith)
 
-  put-z : zAt paulis (put q a b r) q ≡ b
+  pub put-z : zAt paulis (put q a b r) q ≡ b
   unfolding put
   put-z = setZ-z (setX r q a) q b (omega (arith, setX-zs r q a))
 
-  put-x-other : (p : ℕ) → p ≢ q → xAt paulis (put q a b r) p ≡ xAt paulis r p
+  pub put-x-other : (p : ℕ) → p ≢ q → xAt paulis (put q a b r) p ≡ xAt paulis r p
   unfolding put
   put-x-other p h = setZ-x (setX r q a) q p b ∙ setX-other r q p a h
 
-  put-z-other : (p : ℕ) → p ≢ q → zAt paulis (put q a b r) p ≡ zAt paulis r p
+  pub put-z-other : (p : ℕ) → p ≢ q → zAt paulis (put q a b r) p ≡ zAt paulis r p
   unfolding put
   put-z-other p h = setZ-other (setX r q a) q p b h ∙ setX-z r q p a
 
-  put-xs : length (put q a b r .xs) ≡ n
+  pub put-xs : length (put q a b r .xs) ≡ n
   unfolding put
   put-xs = setZ-xs (setX r q a) q b ∙ setX-xs r q a ∙ hx
 
-  put-zs : length (put q a b r .zs) ≡ n
+  pub put-zs : length (put q a b r .zs) ≡ n
   unfolding put
   put-zs = setZ-zs (setX r q a) q b ∙ setX-zs r q a ∙ hz
 
@@ -174,6 +174,51 @@ put-setX r q a = ap (setZ (setX r q a) q) (sym (setX-z r q q a)) ∙ setZ-same (
 put-setZ : (r : Rows Pauli) (q : ℕ) (b : Pauli) → put q (xAt paulis r q) b r ≡ setZ r q b
 unfolding put
 put-setZ r q b = ap (λ (w : Rows Pauli). setZ w q b) (setX-same r q)
+
+-- each gate as new rows of its qubits
+
+pub h-put : (q : ℕ) (r : Rows Pauli) → put q (zAt paulis r q) (xAt paulis r q) r ≡ gateH paulis q r
+unfolding gateH put
+h-put q r = refl
+
+pub s-put : (k q : ℕ) (r : Rows Pauli) → put q (shift k (times (xAt paulis r q) (zAt paulis r q))) (zAt paulis r q) r ≡ gateS paulis k q r
+unfolding gateS paulis
+s-put k q r = put-setX r q _
+
+pub z-put : (q : ℕ) (r : Rows Pauli) → put q (shift 2 (xAt paulis r q)) (zAt paulis r q) r ≡ gateZ paulis q r
+unfolding gateZ paulis
+z-put q r = put-setX r q _
+
+pub x-put : (q : ℕ) (r : Rows Pauli) → put q (xAt paulis r q) (shift 2 (zAt paulis r q)) r ≡ gateX paulis q r
+unfolding gateX paulis
+x-put q r = put-setZ r q _
+
+module _ (c t : ℕ) (r : Rows Pauli) where
+  pub cz-put : put t (times (xAt paulis r t) (zAt paulis r c)) (zAt paulis r t) (put c (times (xAt paulis r c) (zAt paulis r t)) (zAt paulis r c) r) ≡ gateCz paulis c t r
+  unfolding gateCz paulis
+  cz-put =
+      ap (put t xt (zAt paulis r t)) (put-setX r c xc) ∙ ap (λ (w : Pauli). put t xt w (setX r c xc)) (sym (setX-z r c t xc)) ∙ put-setX (setX r c xc) t xt
+    where
+      xc : Pauli
+      xc = times (xAt paulis r c) (zAt paulis r t)
+
+      xt : Pauli
+      xt = times (xAt paulis r t) (zAt paulis r c)
+
+  pub cnot-put : c ≢ t → put t (xAt paulis r t) (times (zAt paulis r t) (zAt paulis r c)) (put c (times (xAt paulis r c) (xAt paulis r t)) (zAt paulis r c) r) ≡ gateCnot paulis c t r
+  unfolding gateCnot paulis
+  cnot-put ct =
+      ap (put t (xAt paulis r t) zt) (put-setX r c xc) ∙ ap (λ (w : Pauli). put t w zt (setX r c xc)) (sym (setX-other r c t xc (λ e. ct (sym e)))) ∙ put-setZ (setX r c xc) t zt
+    where
+      xc : Pauli
+      xc = times (xAt paulis r c) (xAt paulis r t)
+
+      zt : Pauli
+      zt = times (zAt paulis r t) (zAt paulis r c)
+
+  pub swap-put : put t (xAt paulis r c) (zAt paulis r c) (put c (xAt paulis r t) (zAt paulis r t) r) ≡ gateSwap paulis c t r
+  unfolding gateSwap put setX setZ
+  swap-put = refl
 
 -- one qubit's rows are changed
 module _ (n : ℕ) (r : Rows Pauli) (s : Sound n r) (q : ℕ) (hq : q < n) (a b : Pauli) (own′ : Own a b)
@@ -308,16 +353,15 @@ module _ (n : ℕ) (r : Rows Pauli) (s : Sound n r) (c t : ℕ) (hc : c < n) (ht
 
 module _ (n : ℕ) (r : Rows Pauli) (s : Sound n r) (q : ℕ) (hq : q < n) where
   pub sound-H : Sound n (gateH paulis q r)
-  unfolding gateH put
   sound-H =
-      sound-put n r s q hq (zAt paulis r q) (xAt paulis r q)
+      rw (← h-put q r)
+      (sound-put n r s q hq (zAt paulis r q) (xAt paulis r q)
       (record { even-x = s .own q hq .even-z; even-z = s .own q hq .even-x; pair = anti-comm _ _ ∙ s .own q hq .pair })
-      (λ c d f. record { xx = f .zx; xz = f .zz; zx = f .xx; zz = f .xz })
+      (λ c d f. record { xx = f .zx; xz = f .zz; zx = f .xx; zz = f .xz }))
 
   pub sound-S : (k : ℕ) → k % 2 ≡ 1 → Sound n (gateS paulis k q r)
-  unfolding gateS paulis
   sound-S k odd =
-      rw (← put-setX r q (shift k (times a b)))
+      rw (← s-put k q r)
       (sound-put n r s q hq (shift k (times a b)) b
       (record {
         even-x = even-turned k a b odd (o .even-x) (o .even-z) (o .pair);
@@ -341,17 +385,15 @@ module _ (n : ℕ) (r : Rows Pauli) (s : Sound n r) (q : ℕ) (hq : q < n) where
       o = s .own q hq
 
   pub sound-Z : Sound n (gateZ paulis q r)
-  unfolding gateZ paulis
   sound-Z =
-      rw (← put-setX r q (shift 2 (xAt paulis r q)))
+      rw (← z-put q r)
       (sound-put n r s q hq (shift 2 (xAt paulis r q)) (zAt paulis r q)
       (record { even-x = even-two _ (s .own q hq .even-x); even-z = s .own q hq .even-z; pair = anti-shift 2 _ _ ∙ s .own q hq .pair })
       (λ c d f. record { xx = anti-shift 2 _ _ ∙ f .xx; xz = anti-shift 2 _ _ ∙ f .xz; zx = f .zx; zz = f .zz }))
 
   pub sound-X : Sound n (gateX paulis q r)
-  unfolding gateX paulis
   sound-X =
-      rw (← put-setZ r q (shift 2 (zAt paulis r q)))
+      rw (← x-put q r)
       (sound-put n r s q hq (xAt paulis r q) (shift 2 (zAt paulis r q))
       (record { even-x = s .own q hq .even-x; even-z = even-two _ (s .own q hq .even-z); pair = anti-shift-r 2 _ _ ∙ s .own q hq .pair })
       (λ c d f. record { xx = f .xx; xz = f .xz; zx = anti-shift 2 _ _ ∙ f .zx; zz = anti-shift 2 _ _ ∙ f .zz }))
@@ -381,9 +423,8 @@ module _ (n : ℕ) (r : Rows Pauli) (s : Sound n r) (c t : ℕ) (hc : c < n) (ht
   f = s .free c t hc ht ct
 
   pub sound-Cz : Sound n (gateCz paulis c t r)
-  unfolding gateCz paulis
   sound-Cz =
-      rw (← same)
+      rw (← cz-put c t r)
       (sound-put2 n r s c t hc ht ct (times xc zt) zc (times xt zc) zt
       (record { even-x = even-times xc zt (oc .even-x) (ot .even-z) (f .xz); even-z = oc .even-z; pair = sum10 (anti-times xc zt zc) (oc .pair) (anti-comm zt zc ∙ f .zz) })
       (record { even-x = even-times xt zc (ot .even-x) (oc .even-z) (anti-comm xt zc ∙ f .zx); even-z = ot .even-z; pair = sum10 (anti-times xt zc zt) (ot .pair) (f .zz) })
@@ -405,17 +446,10 @@ module _ (n : ℕ) (r : Rows Pauli) (s : Sound n r) (c t : ℕ) (hc : c < n) (ht
         zx = k .zx;
         zz = k .zz;
       }))
-    where
-      same : put t (times xt zc) zt (put c (times xc zt) zc r) ≡ setX (setX r c (times xc zt)) t (times xt zc)
-      same =
-          ap (put t (times xt zc) zt) (put-setX r c (times xc zt))
-          ∙ ap (λ (w : Pauli). put t (times xt zc) w (setX r c (times xc zt))) (sym (setX-z r c t (times xc zt)))
-          ∙ put-setX (setX r c (times xc zt)) t (times xt zc)
 
   pub sound-Cnot : Sound n (gateCnot paulis c t r)
-  unfolding gateCnot paulis
   sound-Cnot =
-      rw (← same)
+      rw (← cnot-put c t r ct)
       (sound-put2 n r s c t hc ht ct (times xc xt) zc xt (times zt zc)
       (record { even-x = even-times xc xt (oc .even-x) (ot .even-x) (f .xx); even-z = oc .even-z; pair = sum10 (anti-times xc xt zc) (oc .pair) (anti-comm xt zc ∙ f .zx) })
       (record { even-x = ot .even-x; even-z = even-times zt zc (ot .even-z) (oc .even-z) (anti-comm zt zc ∙ f .zz); pair = sum10 (anti-times-r xt zt zc) (ot .pair) (anti-comm xt zc ∙ f .zx) })
@@ -437,18 +471,12 @@ module _ (n : ℕ) (r : Rows Pauli) (s : Sound n r) (c t : ℕ) (hc : c < n) (ht
         zx = sum00 (anti-times zt zc u) (k .zx) (h .zx);
         zz = sum00 (anti-times zt zc v) (k .zz) (h .zz);
       }))
-    where
-      same : put t xt (times zt zc) (put c (times xc xt) zc r) ≡ setZ (setX r c (times xc xt)) t (times zt zc)
-      same =
-          ap (put t xt (times zt zc)) (put-setX r c (times xc xt))
-          ∙ ap (λ (w : Pauli). put t w (times zt zc) (setX r c (times xc xt))) (sym (setX-other r c t (times xc xt) (λ e. ct (sym e))))
-          ∙ put-setZ (setX r c (times xc xt)) t (times zt zc)
 
   pub sound-Swap : Sound n (gateSwap paulis c t r)
-  unfolding gateSwap put setX setZ
   sound-Swap =
-      sound-put2 n r s c t hc ht ct (xAt paulis r t) (zAt paulis r t) (xAt paulis r c) (zAt paulis r c)
-      (s .own t ht) (s .own c hc) (free-sym (s .free c t hc ht ct)) (λ u v h k. k) (λ u v h k. h)
+      rw (← swap-put c t r)
+      (sound-put2 n r s c t hc ht ct (xAt paulis r t) (zAt paulis r t) (xAt paulis r c) (zAt paulis r c)
+      (s .own t ht) (s .own c hc) (free-sym (s .free c t hc ht ct)) (λ u v h k. k) (λ u v h k. h))
 
 -- ---- any gate, any turn
 
@@ -519,11 +547,11 @@ getD-from f d k (suc n) (suc q) h = getD-from f d (suc k) n q (le-of-suc-le-suc 
     line : suc k + q ≡ k + suc q
     line = omega arith
 
-fresh-x : (n q : ℕ) → q < n → xAt paulis (fresh n) q ≡ pauliX q
+pub fresh-x : (n q : ℕ) → q < n → xAt paulis (fresh n) q ≡ pauliX q
 unfolding xAt fresh
 fresh-x n q h = getD-from pauliX _ 0 n q h ∙ ap pauliX (zero-add q)
 
-fresh-z : (n q : ℕ) → q < n → zAt paulis (fresh n) q ≡ pauliZ q
+pub fresh-z : (n q : ℕ) → q < n → zAt paulis (fresh n) q ≡ pauliZ q
 unfolding zAt fresh
 fresh-z n q h = getD-from pauliZ _ 0 n q h ∙ ap pauliZ (zero-add q)
 

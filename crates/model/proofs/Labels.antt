@@ -6,14 +6,14 @@ use mathlib.Core.Bool.{Bool, true, false, cond}
 use mathlib.Core.List.{List, [], _∷_, map}
 use native.Mathlib.Nat.{add-zero, zero-add}
 use native.Mathlib.Omega.{arith}
-use lib.Bits.{bitXor, xor-mod, xor-shr, xor-comm, xor-self, xor-zero-r}
+use lib.Bits.{bitXor, xor-mod, xor-shr, xor-self, xor-zero-r}
 use lib.ListN.{length, getD, set, List·getD-map}
 use lib.Dec.{eqb}
 use Rattle.model.specs.Pauli.{Pauli, times, shift, plain}
 use Rattle.model.specs.Frame.{Ops, Rows, Kind, kindX, kindY, kindZ, kindP, Gate, H, X, Y, Z, S, Sdg, Sx, Cnot, Cz, Swap, Cy, xAt, zAt, setX, setZ, gateH, gateS, gateZ, gateX, gateCnot, gateCz, gateSwap, gate, turnZ, turn, axis, paulis, from, pauliX, pauliZ, fresh}
 use Rattle.model.specs.Sketch.{Label, labelXor, noLabel, labels, labelRows}
 use Rattle.model.specs.Demands.{chosen, ofSet, labelOf}
-use Rattle.model.proofs.Counts.{on-bit, xor-assoc}
+use Rattle.model.proofs.Counts.{on-bit, xor-four}
 
 -- ---- the gates commute with any map that respects products and turns
 
@@ -35,11 +35,11 @@ mapRows-setZ f r q a = λ i. record { xs = map f (r .xs); zs = map-set f (r .zs)
 
 module _ {A B : Type 0} (o : Ops A) (u : Ops B) (f : A → B) (hm : (a b : A) → f (o .mul a b) ≡ u .mul (f a) (f b))
     (ht : (k : ℕ) (a : A) → f (o .turned k a) ≡ u .turned k (f a)) (hu : f (o .unit) ≡ u .unit) where
-  at-x : (r : Rows A) (q : ℕ) → xAt u (mapRows f r) q ≡ f (xAt o r q)
+  pub at-x : (r : Rows A) (q : ℕ) → xAt u (mapRows f r) q ≡ f (xAt o r q)
   unfolding xAt mapRows
   at-x r q = ap (getD (map f (r .xs)) q) (sym hu) ∙ List·getD-map f (r .xs) q (o .unit)
 
-  at-z : (r : Rows A) (q : ℕ) → zAt u (mapRows f r) q ≡ f (zAt o r q)
+  pub at-z : (r : Rows A) (q : ℕ) → zAt u (mapRows f r) q ≡ f (zAt o r q)
   unfolding zAt mapRows
   at-z r q = ap (getD (map f (r .zs)) q) (sym hu) ∙ List·getD-map f (r .zs) q (o .unit)
 
@@ -108,12 +108,6 @@ module _ {A B : Type 0} (o : Ops A) (u : Ops B) (f : A → B) (hm : (a b : A) �
   map-axis kindP q r = sym (at-z r q)
 
 -- ---- exclusive or
-
-xor-four : (a b c d : ℕ) → bitXor (bitXor a b) (bitXor c d) ≡ bitXor (bitXor a c) (bitXor b d)
-xor-four a b c d =
-    xor-assoc a b (bitXor c d)
-    ∙ ap (bitXor a) (sym (xor-assoc b c d) ∙ ap (λ (w : ℕ). bitXor w d) (xor-comm b c) ∙ xor-assoc c b d)
-    ∙ sym (xor-assoc a c (bitXor b d))
 
 label-four : (a b c d : Label) → labelXor (labelXor a b) (labelXor c d) ≡ labelXor (labelXor a c) (labelXor b d)
 unfolding labelXor
@@ -235,7 +229,7 @@ labelOf-z : (o : Rows Label) (q : ℕ) → labelOf o (pauliZ q) ≡ getD (o .zs)
 unfolding labelOf pauliZ
 labelOf-z o q = ap₂ labelXor (ofSet-none (o .xs)) (ofSet-one (o .zs) q) ∙ label-zero-l _
 
-map-map : {A B C : Type 0} (g : B → C) (f : A → B) (s : List A) → map g (map f s) ≡ map (λ a. g (f a)) s
+pub map-map : {A B C : Type 0} (g : B → C) (f : A → B) (s : List A) → map g (map f s) ≡ map (λ a. g (f a)) s
 map-map g f [] = refl
 map-map g f (a ∷ s) = ap {B = List _} (λ t. g (f a) ∷ t) (map-map g f s)
 

@@ -5,6 +5,7 @@ pub mod Cases
 -- 2, 3: counts and exclusive or; their parity, and anticommutation; products and signs; every gate and turn keeps the frame, and its
 -- rows within the qubits.
 pub mod Counts
+pub mod Digits
 pub mod Parity
 pub mod Products
 pub mod Invariant
@@ -22,6 +23,7 @@ pub mod Share
 pub mod Looks
 pub mod Good
 pub mod Kept
+pub mod Stay
 pub mod Exact
 -- 7: what a look costs at most.
 pub mod Enough

@@ -14,23 +14,23 @@ use Rattle.model.proofs.Parity.{parity, parity-r, anti-self, quarter-ti
 
 -- ---- sums modulo 4, a step at a time: `omega` gives up on many remainders at once
 
-m4-add : (a b c d : ℕ) → a % 4 ≡ b % 4 → c % 4 ≡ d % 4 → (a + c) % 4 ≡ (b + d) % 4
+pub m4-add : (a b c d : ℕ) → a % 4 ≡ b % 4 → c % 4 ≡ d % 4 → (a + c) % 4 ≡ (b + d) % 4
 m4-add a b c d p q = omega arith
 
-m4-cancel : (a b w : ℕ) → (a + w) % 4 ≡ (b + w) % 4 → a % 4 ≡ b % 4
+pub m4-cancel : (a b w : ℕ) → (a + w) % 4 ≡ (b + w) % 4 → a % 4 ≡ b % 4
 m4-cancel a b w p = omega arith
 
-m4-mod : (a : ℕ) → a % 4 % 4 ≡ a % 4
+pub m4-mod : (a : ℕ) → a % 4 % 4 ≡ a % 4
 m4-mod a = omega arith
 
-m4-low : (a b : ℕ) → a % 4 ≡ b % 4 → a < 4 → b < 4 → a ≡ b
+pub m4-low : (a b : ℕ) → a % 4 ≡ b % 4 → a < 4 → b < 4 → a ≡ b
 m4-low a b p h k = omega arith
 
 -- twice a number, from its parity
-twice-mod : (u v : ℕ) → u % 2 ≡ v % 2 → 2 * u % 4 ≡ 2 * v % 4
+pub twice-mod : (u v : ℕ) → u % 2 ≡ v % 2 → 2 * u % 4 ≡ 2 * v % 4
 twice-mod u v p = omega arith
 
-twice-bit : (u : ℕ) → 2 * (u % 2) % 4 ≡ 2 * u % 4
+pub twice-bit : (u : ℕ) → 2 * (u % 2) % 4 ≡ 2 * u % 4
 twice-bit u = omega arith
 
 -- ---- associative
@@ -79,7 +79,7 @@ times-assoc a b c = λ i. record { phase = line i; x = xor-assoc (a .x) (b .x) (
 -- ---- signs
 
 -- the quarter and the qubits in both sets make the phase
-quarter-whole : (f n : ℕ) → ((f + 4 - n % 4) % 4 + n) % 4 ≡ f % 4
+pub quarter-whole : (f n : ℕ) → ((f + 4 - n % 4) % 4 + n) % 4 ≡ f % 4
 quarter-whole f n = omega arith
 
 pub quarter-lt : (p : Pauli) → quarter p < 4
@@ -117,7 +117,7 @@ quarter-product a b =
 abbrev pub Even : ℕ → Type 0
 Even k = (k ≡ 0) ⊎ (k ≡ 2)
 
-even-mod : (k : ℕ) → k < 4 → k % 2 ≡ 0 → Even k
+pub even-mod : (k : ℕ) → k < 4 → k % 2 ≡ 0 → Even k
 even-mod zero h e = inl refl
 even-mod (suc zero) h e = absurd (wrong e)
   where
@@ -129,7 +129,7 @@ even-mod (suc (suc (suc k))) h e = absurd (wrong k h e)
     wrong : (k : ℕ) → suc (suc (suc k)) < 4 → suc (suc (suc k)) % 2 ≡ 0 → ⊥
     wrong k h e = omega arith
 
-mod-even : (k : ℕ) → Even k → k % 2 ≡ 0
+pub mod-even : (k : ℕ) → Even k → k % 2 ≡ 0
 mod-even k (inl e) = ap (λ (w : ℕ). w % 2) e
 mod-even k (inr e) = ap (λ (w : ℕ). w % 2) e
 

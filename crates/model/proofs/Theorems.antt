@@ -4,7 +4,7 @@
 use Prim.Native.Nat.{ℕ, _+_, _*_, _/_, _%_, _≤_, _<_}
 use mathlib.Core.Path.{_≡_, sym, ap, _∙_, subst}
 use mathlib.Core.Logic.{_≢_, _↔_}
-use mathlib.Core.Bool.{Bool, true, cond}
+use mathlib.Core.Bool.{Bool, true, false, cond}
 use mathlib.Core.List.{List}
 use lib.Bits.{bitOr}
 use lib.Count.{ones}
@@ -18,7 +18,7 @@ use Rattle.model.specs.Events.{Body, rotation, Opening, State, words, pl
 use Rattle.model.specs.Search.{listAt, found, look}
 use Rattle.model.specs.Store.{need, roof}
 use Rattle.model.specs.Calls.{openAnswer, opened, Call, Lent, answerTo, after, call, calls, replies, tally}
-use Rattle.model.specs.Demands.{IsSign, HasSign, Signed, positive, Paired, Fits, Labelled, Sketched, Listed, Says, living, NotOut, Exactly, SameReplies}
+use Rattle.model.specs.Demands.{SameEvent, isOpening, IsSign, HasSign, Signed, positive, Paired, Fits, Labelled, Sketched, Listed, Says, living, NotOut, Exactly, SameReplies}
 use Rattle.model.proofs.Cases.{Cases, cases}
 use Rattle.model.proofs.Counts.{count-ones}
 use Rattle.model.proofs.Parity.{anti-times, anti-comm}
@@ -30,6 +30,7 @@ use Rattle.model.proofs.Lists.{kill-list}
 use Rattle.model.proofs.Good.{origin, reached, good-look, opens}
 use Rattle.model.proofs.Kept.{paired, unpaired, sketched, listed, look-sign}
 use Rattle.model.proofs.Exact.{exact}
+use Rattle.model.proofs.Stay.{stays}
 use Rattle.model.proofs.Enough.{never-out, tally-live}
 use Rattle.model.proofs.Twins.{twin-openings}
 use Rattle.model.proofs.Room.{frame-limit, need-roof}
@@ -121,6 +122,11 @@ signs-kept o h cs i there = reached o h cs .each i there .signed
 pub look-signed : (o : Opening) → openAnswer o ≡ 0 → (cs : List Lent) → let s : State = calls cs (opened o) in
     (kind : Kind) (q id steps : ℕ) (g : ℤ) → q < s .given .n → look kind q s ≡ found id g steps → IsSign g
 look-signed o h cs = look-sign (calls cs (opened o)) (reached o h cs)
+
+-- "Numbers count from 0 in order of recording and are never used again": an event stays where it is with all but its life
+pub events-stay : (c : Call) (w : ℕ) (s : State) (i : ℕ) → isOpening c ≡ false → i < length (s .events)
+    → (i < length (call c w s .events)) × SameEvent (eventAt (call c w s .events) i) (eventAt (s .events) i)
+events-stay = stays
 
 -- ---- 7. demand 3: "with at most 12,000 live events and 1,048,576 steps no search runs out"
 

@@ -2,7 +2,7 @@
 use Prim.Native.Nat.{ℕ, zero, suc, _*_, _/_, _%_, _≤_, _<_}
 use mathlib.Core.Path.{_≡_}
 use mathlib.Core.Logic.{_≢_, _⊎_, _↔_}
-use mathlib.Core.Bool.{true, false}
+use mathlib.Core.Bool.{Bool, true, false}
 use mathlib.Core.List.{List, [], _∷_}
 use lib.ListN.{length}
 use lib.Bits.{bitAnd}
@@ -11,9 +11,9 @@ use lib.Dec.{eqb}
 use Rattle.model.specs.Pauli.{Pauli, count, sign, apart, anti}
 use Rattle.model.specs.Frame.{Rows, Kind, Gate, H, X, Y, Z, S, Sdg, Sx, Cnot, Cz, Swap, Cy, xAt, zAt, axis, paulis}
 use Rattle.model.specs.Sketch.{Label, labelXor, noLabel, labels, labelRows}
-use Rattle.model.specs.Events.{Body, rotation, blocker, Form, scalar, sliced, State, plane, keep, touches, eventAt, liveAt, isRotation, dead}
+use Rattle.model.specs.Events.{Body, rotation, blocker, Event, Form, scalar, sliced, State, plane, keep, touches, eventAt, liveAt, isRotation, dead}
 use Rattle.model.specs.Search.{listAt, signAt, Look, found, none, blocked, out}
-use Rattle.model.specs.Calls.{Reply, refused, accepted, recorded, says, looked}
+use Rattle.model.specs.Calls.{Call, callOpen, callGate, callTurn, callRecord, callMeasure, callReset, callCcx, callCcz, callKill, callRead, callClear, callLook, Reply, refused, accepted, recorded, says, looked}
 
 module _ {A : Type 0} where
   -- i is an element of a list
@@ -170,6 +170,28 @@ pub record Exactly (s : State) (p : Pauli) (a : Look) : Type 0 where
   pub names : (id : ℕ) (g : ℤ) → ((steps : ℕ) × (a ≡ found id g steps)) ↔ Named s p id g
   pub finds-none : ((steps : ℕ) × (a ≡ none steps)) ↔ ((id : ℕ) → Match s p id → ⊥)
   pub is-blocked : ((steps : ℕ) × (a ≡ blocked steps)) ↔ ((id : ℕ) × (j : ℕ) × Newest s p id × InTheWay s p id j)
+
+-- ---- events stay
+
+-- an event but for whether it is live
+pub record SameEvent (a b : Event) : Type 0 where
+  pub body : a .body ≡ b .body
+  pub x : a .x ≡ b .x
+  pub z : a .z ≡ b .z
+
+unfoldable pub isOpening : Call → Bool
+isOpening (callOpen n E A form ws) = true
+isOpening (callGate g) = false
+isOpening (callTurn kind k q) = false
+isOpening (callRecord kind q tag) = false
+isOpening (callMeasure q) = false
+isOpening (callReset q) = false
+isOpening (callCcx a b t) = false
+isOpening (callCcz a b t) = false
+isOpening (callKill id) = false
+isOpening (callRead id) = false
+isOpening callClear = false
+isOpening (callLook kind q) = false
 
 -- ---- two runs
 
