@@ -1,6 +1,5 @@
--- Computed from the definitions: 01's twelve proved cases, its worked example, the images of every gate and turn, and the slips that 01 and the
--- design name. Each expectation is 01's own, or comes from matrices (tools/gate_images.py), from the Rust's text or from a count by hand, as its
--- line says. Assumes nothing.
+-- Computed from the definitions: 01's twelve proved cases and its worked example, with 01's own numbers; the images of every gate and turn, from
+-- matrices (tools/gate_images.py); and the slips that 01 and the design name, counted by hand. Assumes nothing.
 use Prim.Native.Nat.{ℕ, zero, suc, _+_, _*_}
 use mathlib.Core.Path.{_≡_, refl}
 use mathlib.Core.List.{List, [], _∷_, _++_, map}
@@ -13,7 +12,7 @@ use Rattle.model.specs.Sketch.{labelXor, noLabel, sameLabel, labels, lab
 use Rattle.model.specs.Events.{Event, Form, scalar, sliced, Opening, State, keep, some, words, touches, noEvent, eventAt, liveAt, isRotation, push, record1, recordAll, blockerOn, killed, dead, factor, tidy, kill, clear}
 use Rattle.model.specs.Search.{walk, down, recent, hasLabel, candidate, sameAxis, phase1, against, listAt, join, sharedBelow, entry, scalarList, blocks, start, block, slicedList, listWork, phase2, Look, found, none, blocked, out, signAt, spent, looked2, looked1, lookFor, look}
 use Rattle.model.specs.Store.{headerRoom, frameRoom, sketchRoom, listCount, countRoom, chainRoom, eventRoom, liveRoom, axisRoom, listRoom, need}
-use Rattle.model.specs.Calls.{tooWide, openNumber, openAnswer, opened, opening, Call, callOpen, callGate, callTurn, callRecord, callMeasure, callReset, callCcx, callCcz, callKill, callRead, callClear, callLook, Lent, answer, twice, answerTo, gateQubits, notReadable, notKillable, tagAt, reading, Reply, refused, accepted, recorded, says, looked, replyOf, reply, reframed, rotationOf, seven, after, call, calls, replies, tally}
+use Rattle.model.specs.Calls.{tooWide, openNumber, openAnswer, opened, opening, Call, callOpen, callGate, callTurn, callRecord, callMeasure, callReset, callCcx, callCcz, callKill, callRead, callClear, callLook, Lent, answer, twice, answerTo, gateQubits, notReadable, notKillable, tagAt, reading, Reply, refused, accepted, recorded, says, looked, replyOf, reply, reframed, rotationOf, seven, effect, call, calls, replies, tally}
 
 -- ---- runs
 
@@ -181,8 +180,12 @@ pub record Slips : Type 0 where
       × (last (told (alike 1 2 9 scalar) (callRecord kindZ 0 0 ∷ callMeasure 0 ∷ callLook kindZ 0 ∷ [])) ≡ looked (found 0 (pos 1) 2))
       × (last (told (alike 1 2 9 scalar) (callRecord kindZ 0 0 ∷ callGate (H 0) ∷ callMeasure 0 ∷ callGate (H 0) ∷ callLook kindZ 0 ∷ [])) ≡ looked (blocked 2))
       × (last (told (alike 1 3 9 scalar) (callRecord kindZ 0 0 ∷ callReset 0 ∷ callLook kindZ 0 ∷ [])) ≡ looked (blocked 3))
+      × (last (told (alike 1 3 9 scalar) (callRecord kindX 0 0 ∷ callReset 0 ∷ callLook kindX 0 ∷ [])) ≡ looked (blocked 2))
       × (map sets (run (alike 3 7 0 scalar) (callCcz 0 1 2 ∷ []) .events)
       ≡ (0 ∷ 1 ∷ []) ∷ (0 ∷ 2 ∷ []) ∷ (0 ∷ 3 ∷ []) ∷ (0 ∷ 4 ∷ []) ∷ (0 ∷ 5 ∷ []) ∷ (0 ∷ 6 ∷ []) ∷ (0 ∷ 7 ∷ []) ∷ [])
+  -- openings on two qubits for one event, which need 8 words of labels and 238 of store, and an allowance of at most 2^20; 1, 2, 3 in this order
+  pub openings : (openNumber 2 1 1048576 scalar 8 238 ≡ 0) × (openNumber 2 1 1048576 scalar 8 237 ≡ 3) × (openNumber 2 1 1048576 scalar 7 238 ≡ 3)
+      × (openNumber 2 1 1048577 scalar 8 238 ≡ 1) × (openNumber 0 0 0 scalar 7 0 ≡ 1) × (openNumber 33 0 0 sliced 7 0 ≡ 1) × (openNumber 2 0 0 scalar 7 0 ≡ 2)
   -- refusals, each first in its order; a refused reset leaves both its places free, and a refused opening the store
   pub refusals : told (alike 2 2 9 scalar)
       (callGate (Cnot 2 2) ∷ callGate (Cnot 1 1) ∷ callTurn kindY 3 9 ∷ callLook kindX 2 ∷ callRecord kindZ 0 5 ∷ callReset 0 ∷ callMeasure 1
@@ -204,7 +207,7 @@ pub record Cases : Type 0 where
   pub slips : Slips
 
 pub cases : Cases
-unfolding countIn count times shift plain quarter signOf sign apart anti xAt zAt setX setZ gateH gateS gateZ gateX gateCnot gateCz gateSwap gate turnZ turn axis paulis from pauliX pauliZ fresh labelXor noLabel sameLabel labels labelRows keep some words touches noEvent eventAt liveAt isRotation push record1 recordAll blockerOn killed dead factor tidy kill clear walk down recent hasLabel candidate sameAxis phase1 against listAt join sharedBelow entry scalarList blocks start block slicedList listWork phase2 signAt spent looked2 looked1 lookFor look headerRoom frameRoom sketchRoom listCount countRoom chainRoom eventRoom liveRoom axisRoom listRoom need tooWide openNumber openAnswer opened opening answer twice answerTo gateQubits notReadable notKillable tagAt reading replyOf reply reframed rotationOf seven after call calls replies tally exactly alike lend run told times-call looking axisAfter setsOf sets tried sample sampleLines triple table besides through turned2 pairFirst ownLabels last
+unfolding countIn count times shift plain quarter signOf sign apart anti xAt zAt setX setZ gateH gateS gateZ gateX gateCnot gateCz gateSwap gate turnZ turn axis paulis from pauliX pauliZ fresh labelXor noLabel sameLabel labels labelRows keep some words touches noEvent eventAt liveAt isRotation push record1 recordAll blockerOn killed dead factor tidy kill clear walk down recent hasLabel candidate sameAxis phase1 against listAt join sharedBelow entry scalarList blocks start block slicedList listWork phase2 signAt spent looked2 looked1 lookFor look headerRoom frameRoom sketchRoom listCount countRoom chainRoom eventRoom liveRoom axisRoom listRoom need tooWide openNumber openAnswer opened opening answer twice answerTo gateQubits notReadable notKillable tagAt reading replyOf reply reframed rotationOf seven effect call calls replies tally exactly alike lend run told times-call looking axisAfter setsOf sets tried sample sampleLines triple table besides through turned2 pairFirst ownLabels last
 cases = record {
   twelve = record {
     case1 = (refl, refl);
@@ -248,7 +251,8 @@ cases = record {
     clear-keeps-lists = refl;
     signature = refl;
     high-qubits = refl;
-    blockers = (refl, refl, refl, refl, refl);
+    blockers = (refl, refl, refl, refl, refl, refl);
+    openings = (refl, refl, refl, refl, refl, refl, refl);
     refusals = refl;
     short-store = refl;
     sign-twist = (refl, refl, refl, refl);

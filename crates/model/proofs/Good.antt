@@ -17,11 +17,11 @@ use Rattle.model.specs.Sketch.{Label, sameLabel, labels, labelRows}
 use Rattle.model.specs.Events.{Body, rotation, blocker, Event, Form, scalar, sliced, Opening, State, plane, keep, some, words, noEvent, eventAt, liveAt, isRotation, record1, recordAll, blockerOn, killed, dead, factor, tidy, kill, clear}
 use Rattle.model.specs.Search.{listAt, hasLabel, sameAxis, look}
 use Rattle.model.specs.Store.{need, listCount}
-use Rattle.model.specs.Calls.{tooWide, openNumber, openAnswer, opened, opening, Call, callOpen, callGate, callTurn, callRecord, callMeasure, callReset, callCcx, callCcz, callKill, callRead, callClear, callLook, Lent, answer, twice, answerTo, gateQubits, notReadable, notKillable, reframed, rotationOf, seven, after, call, calls}
-use Rattle.model.specs.Demands.{Mem, Fits, labelOf, Labelled, Signed, Says}
+use Rattle.model.specs.Calls.{tooWide, openNumber, openAnswer, opened, opening, Call, callOpen, callGate, callTurn, callRecord, callMeasure, callReset, callCcx, callCcz, callKill, callRead, callClear, callLook, Lent, answer, twice, answerTo, gateQubits, notReadable, notKillable, reframed, rotationOf, seven, effect, call, calls}
+use Rattle.model.specs.Demands.{Mem, Fits, Small, labelOf, Labelled, Signed, Says}
 use Rattle.model.proofs.Invariant.{Sound, even-axis, sound-gate, sound-turn, sound-fresh}
 use Rattle.model.proofs.Products.{has-sign}
-use Rattle.model.proofs.Within.{Below, Within, below-times, within-gate, within-turn, within-axis, within-fresh}
+use Rattle.model.proofs.Within.{Within, small-times, within-gate, within-turn, within-axis, within-fresh}
 use Rattle.model.proofs.Labels.{labelOf-sets, Follows, follows-gate, follows-turn, follows-axis, follows-fresh, labelRows-length}
 use Rattle.model.proofs.Members.{clash, and-both, both-and, mem-some}
 use Rattle.model.proofs.Lists.{ListOk, ListsOk, push-length, at-old, at-new, length-new, gone, gone-at, gone-other, lists-record1, lists-kill, lists-clear}
@@ -42,7 +42,7 @@ limit sliced = 32
 
 -- the labels at opening
 abbrev pub origin : State → Rows Label
-origin s = labelRows (s .given .labels)
+origin s = labelRows (s .given .labelWords)
 
 -- what every state keeps
 pub record Good (s : State) : Type 0 where
@@ -93,13 +93,13 @@ good-label s a x z g e id m =
 pub good-look : (s : State) → Good s → (kind : Kind) (q : ℕ) → Says s (axis paulis kind q (s .frame)) (look kind q s)
 unfolding look
 good-look s g kind q =
-    look-says s (g .lists-ok) (g .past) (axis labels kind q (s .sketch)) p (grown (b .0)) (grown (b .1))
+    look-says s (g .lists-ok) (g .past) (axis labels kind q (s .sketch)) p (grown (b .x-small)) (grown (b .z-small))
     (good-label s (axis labels kind q (s .sketch)) (p .x) (p .z) g (follows-axis (origin s) (s .frame) (s .sketch) kind q (g .follows) ∙ labelOf-sets (origin s) p _ refl refl))
   where
     p : Pauli
     p = axis paulis kind q (s .frame)
 
-    b : Below (s .given .n) p
+    b : Small (s .given .n) p
     b = within-axis (s .given .n) kind q (s .frame) (g .within)
 
     grown : {y : ℕ} → y < 2 ^ s .given .n → y < 2 ^ (plane s * length (s .lists))
@@ -255,20 +255,20 @@ good-clear s g = record {
 axis-ok : (s : State) (kind : Kind) (q tag : ℕ) → Good s → q < s .given .n → EventOk (origin s) (s .given .n) (rotationOf kind q tag s)
 unfolding rotationOf
 axis-ok s kind q tag g h = record {
-  small-x = b .0;
-  small-z = b .1;
+  small-x = b .x-small;
+  small-z = b .z-small;
   labelled = follows-axis (origin s) (s .frame) (s .sketch) kind q (g .follows) ∙ labelOf-sets (origin s) _ _ refl refl;
   signed = has-sign (axis paulis kind q (s .frame)) (even-axis (s .given .n) (s .frame) kind q (g .sound) h);
 }
   where
-    b : Below (s .given .n) (axis paulis kind q (s .frame))
+    b : Small (s .given .n) (axis paulis kind q (s .frame))
     b = within-axis (s .given .n) kind q (s .frame) (g .within)
 
-blocker-ok : (o : Rows Label) (n : ℕ) (p : Pauli) → Below n p → EventOk o n (blockerOn p)
+blocker-ok : (o : Rows Label) (n : ℕ) (p : Pauli) → Small n p → EventOk o n (blockerOn p)
 unfolding blockerOn
-blocker-ok o n p b = record { small-x = b .0; small-z = b .1; labelled = tt; signed = tt }
+blocker-ok o n p b = record { small-x = b .x-small; small-z = b .z-small; labelled = tt; signed = tt }
 
-seven-ok : (o : Rows Label) (n : ℕ) (a b t : Pauli) → Below n a → Below n b → Below n t → AllOk o n (map blockerOn (seven a b t))
+seven-ok : (o : Rows Label) (n : ℕ) (a b t : Pauli) → Small n a → Small n b → Small n t → AllOk o n (map blockerOn (seven a b t))
 unfolding seven blockerOn
 seven-ok o n a b t ha hb ht = (
   blocker-ok o n a ha,
@@ -277,18 +277,18 @@ seven-ok o n a b t ha hb ht = (
     blocker-ok o n b hb,
     refl,
     (
-      blocker-ok o n (times a b) (below-times n a b ha hb),
+      blocker-ok o n (times a b) (small-times n a b ha hb),
       refl,
       (
         blocker-ok o n t ht,
         refl,
         (
-          blocker-ok o n (times a t) (below-times n a t ha ht),
+          blocker-ok o n (times a t) (small-times n a t ha ht),
           refl,
           (
-            blocker-ok o n (times b t) (below-times n b t hb ht),
+            blocker-ok o n (times b t) (small-times n b t hb ht),
             refl,
-            (blocker-ok o n (times (times a b) t) (below-times n (times a b) t (below-times n a b ha hb) ht), refl, tt),
+            (blocker-ok o n (times (times a b) t) (small-times n (times a b) t (small-times n a b ha hb) ht), refl, tt),
           ),
         ),
       ),
@@ -313,7 +313,7 @@ pub record Opens (o : Opening) : Type 0 where
   pub narrow : tooWide (o .form) (o .n) ≡ false
   pub some-event : o .capacity ≢ 0
   pub events-fit : 2 * words (o .n) * o .capacity ≤ 2 ^ 25
-  pub labels-fit : length (o .labels) ≡ 4 * o .n
+  pub labels-fit : length (o .labelWords) ≡ 4 * o .n
   pub store-fits : need (o .n) (o .capacity) (o .form) ≤ o .size
 
 -- what the answer 0 says
@@ -323,12 +323,12 @@ opens o h =
     let n : ℕ = o .n in
     let a = cond-zero (eqb n 0 || ltb (2 ^ 25) (4 * n * words n) || ltb (2 ^ 20) (o .allowance) || tooWide (o .form) n) 0 _ h in
     let b = cond-zero (eqb (o .capacity) 0 || ltb (2 ^ 25) (2 * words n * o .capacity)) 1 _ (a .1) in
-    let c = cond-zero (not (eqb (length (o .labels)) (4 * n)) || ltb (o .size) (need n (o .capacity) (o .form))) 2 0 (b .1) in
+    let c = cond-zero (not (eqb (length (o .labelWords)) (4 * n)) || ltb (o .size) (need n (o .capacity) (o .form))) 2 0 (b .1) in
     let d = or-false (eqb n 0 || ltb (2 ^ 25) (4 * n * words n) || ltb (2 ^ 20) (o .allowance)) (tooWide (o .form) n) (a .0) in
     let e = or-false (eqb n 0 || ltb (2 ^ 25) (4 * n * words n)) (ltb (2 ^ 20) (o .allowance)) (d .0) in
     let f = or-false (eqb n 0) (ltb (2 ^ 25) (4 * n * words n)) (e .0) in
     let g = or-false (eqb (o .capacity) 0) (ltb (2 ^ 25) (2 * words n * o .capacity)) (b .0) in
-    let i = or-false (not (eqb (length (o .labels)) (4 * n))) (ltb (o .size) (need n (o .capacity) (o .form))) (c .0) in
+    let i = or-false (not (eqb (length (o .labelWords)) (4 * n))) (ltb (o .size) (need n (o .capacity) (o .form))) (c .0) in
     record {
       some-qubit = eqb-false n 0 (f .0);
       frame-fits = ltb-false (2 ^ 25) (4 * n * words n) (f .1);
@@ -336,7 +336,7 @@ opens o h =
       narrow = d .1;
       some-event = eqb-false (o .capacity) 0 (g .0);
       events-fit = ltb-false (2 ^ 25) (2 * words n * o .capacity) (g .1);
-      labels-fit = eqb-true (length (o .labels)) (4 * n) (not-false (eqb (length (o .labels)) (4 * n)) (i .0));
+      labels-fit = eqb-true (length (o .labelWords)) (4 * n) (not-false (eqb (length (o .labelWords)) (4 * n)) (i .0));
       store-fits = ltb-false (o .size) (need n (o .capacity) (o .form)) (i .1);
     }
 
@@ -374,7 +374,7 @@ unfolding opened listAt
 good-open o h = record {
   sound = sound-fresh (o .n);
   within = within-fresh (o .n);
-  follows = follows-fresh (labelRows (o .labels)) (o .n) (labelRows-length (o .labels) (o .n) (q .labels-fit) .0) (labelRows-length (o .labels) (o .n) (q .labels-fit) .1);
+  follows = follows-fresh (labelRows (o .labelWords)) (o .n) (labelRows-length (o .labelWords) (o .n) (q .labels-fit) .0) (labelRows-length (o .labelWords) (o .n) (q .labels-fit) .1);
   wide = rw (length-replicate {A = List ℕ} count []) (count-wide (o .form) (o .n) (q .some-qubit) (q .narrow));
   few = rw (length-replicate {A = List ℕ} count []) (count-few (o .form) (o .n) (q .narrow));
   room = omega arith;
@@ -394,8 +394,8 @@ good-open o h = record {
 
 -- ---- every call
 
-good-after : (s : State) (c : Call) (w : ℕ) → Good s → answerTo c w s ≡ 0 → Good (after c w s)
-unfolding after answerTo
+good-after : (s : State) (c : Call) (w : ℕ) → Good s → answerTo c w s ≡ 0 → Good (effect c w s)
+unfolding effect answerTo
 good-after s (callOpen n E A form ws) w g h = good-open (opening n E A form ws w) h
 good-after s (callGate t) w g h =
     let a : Passed s w (gateQubits t) 0 false = passed s w 0 (gateQubits t) 0 false h in
@@ -430,7 +430,7 @@ pub good-call : (s : State) (c : Call) (w : ℕ) → Good s → Good (call c w s
 unfolding call
 good-call s c w g = go (eqb (answerTo c w s) 0) refl
   where
-    go : (t : Bool) → eqb (answerTo c w s) 0 ≡ t → Good (cond t (after c w s) s)
+    go : (t : Bool) → eqb (answerTo c w s) 0 ≡ t → Good (cond t (effect c w s) s)
     go true e = good-after s c w g (eqb-true (answerTo c w s) 0 e)
     go false e = g
 

@@ -1,8 +1,8 @@
--- The theorems of docs/PROMISES.md, under the names that it gives. Each says what the mission's demands or 01 say, in the words of specs/ alone,
--- and asks for nothing beyond an opening that answered 0; `cs` are any calls after it, refused ones and further openings included, each on a
--- store of any length. Assumes nothing.
+-- The theorems of docs/PROMISES.md, under the names that it gives. Each says what the mission's demands or 01 say, in the words of specs/ (but
+-- for `computed`, whose cases stand in Cases), and assumes of a state only that its opening answered 0; `cs` are any calls after it, refused ones
+-- and further openings included, each on a store of any length. Assumes nothing.
 use Prim.Native.Nat.{ℕ, _+_, _*_, _/_, _%_, _≤_, _<_}
-use mathlib.Core.Path.{_≡_, sym, ap, _∙_, subst}
+use mathlib.Core.Path.{_≡_, refl, sym, ap, _∙_, subst}
 use mathlib.Core.Logic.{_≢_, _↔_}
 use mathlib.Core.Bool.{Bool, true, false, cond}
 use mathlib.Core.List.{List}
@@ -10,6 +10,7 @@ use lib.Bits.{bitOr}
 use lib.Count.{ones}
 use lib.IntN.{ℤ, _*ℤ_}
 use lib.ListN.{length}
+use lib.Dec.{eqb}
 use borrow.Author.Tests.{ne-eqb}
 use Rattle.model.specs.Pauli.{Pauli, has, count, times, sign, anti}
 use Rattle.model.specs.Frame.{Rows, Kind, Gate, gate, turn, axis, paulis, fresh}
@@ -17,29 +18,34 @@ use Rattle.model.specs.Sketch.{Label, labels}
 use Rattle.model.specs.Events.{Body, rotation, Opening, State, words, plane, touches, eventAt, tidy, kill}
 use Rattle.model.specs.Search.{listAt, found, look}
 use Rattle.model.specs.Store.{need, roof}
-use Rattle.model.specs.Calls.{openAnswer, opened, Call, Lent, answerTo, after, call, calls, replies, tally}
-use Rattle.model.specs.Demands.{SameEvent, isOpening, IsSign, HasSign, Signed, positive, Paired, Fits, Labelled, Sketched, Listed, Says, living, NotOut, Exactly, SameReplies}
+use Rattle.model.specs.Calls.{openAnswer, opened, Call, callClear, callRead, callLook, Lent, answerTo, effect, call, calls, replies, tally}
+use Rattle.model.specs.Demands.{SameEvent, isOpening, Recorded, Match, Small, IsSign, HasSign, Signed, positive, Paired, Fits, Labelled, Sketched, Listed, Says, living, NotOut, Exactly, SameReplies}
 use Rattle.model.proofs.Cases.{Cases, cases}
 use Rattle.model.proofs.Counts.{count-ones}
 use Rattle.model.proofs.Parity.{anti-times, anti-comm}
-use Rattle.model.proofs.Products.{times-assoc, product-sign, sign-times, sign-same}
-use Rattle.model.proofs.Invariant.{sound-fresh, sound-gate, sound-turn, anti-times-r}
+use Rattle.model.proofs.Products.{has-sign, times-assoc, product-sign, sign-times, sign-same}
+use Rattle.model.proofs.Invariant.{even-axis, sound-fresh, sound-gate, sound-turn, anti-times-r}
+use Rattle.model.proofs.Within.{within-axis}
 use Rattle.model.proofs.Labels.{labelOf-sets}
 use Rattle.model.proofs.Signature.{signature-bit}
 use Rattle.model.proofs.Lists.{kill-list}
 use Rattle.model.proofs.Good.{origin, reached, good-look, opens}
 use Rattle.model.proofs.Kept.{paired, unpaired, sketched, listed, look-sign}
 use Rattle.model.proofs.Exact.{exact}
-use Rattle.model.proofs.Stay.{stays}
+use Rattle.model.proofs.Stay.{stays, all-recorded-since, cleared-none}
 use Rattle.model.proofs.Enough.{never-out, tally-live}
 use Rattle.model.proofs.Twins.{twin-openings}
 use Rattle.model.proofs.Room.{frame-limit, need-roof}
 
 -- ---- demand 1: "such a refusal changes no word"
 
+either-way : (b : Bool) (s : State) → cond b s s ≡ s
+either-way true s = refl
+either-way false s = refl
+
 pub refusal-changes-nothing : (c : Call) (w : ℕ) (s : State) → answerTo c w s ≢ 0 → call c w s ≡ s
 unfolding call
-refusal-changes-nothing c w s h = ap (λ (b : Bool). cond b (after c w s) s) (ne-eqb (answerTo c w s) 0 h)
+refusal-changes-nothing c w s h = ap (λ (b : Bool). cond b (effect c w s) s) (ne-eqb (answerTo c w s) 0 h)
 
 -- ---- 1. 01, "Proved cases" and the worked example, with the gates' images and 01's slips
 
@@ -65,6 +71,16 @@ turn-keeps n r kind k q p h = paired n (turn paulis kind k q r) (sound-turn n r 
 
 pub frames-kept : (o : Opening) → openAnswer o ≡ 0 → (cs : List Lent) → Paired (calls cs (opened o) .given .n) (calls cs (opened o) .frame)
 frames-kept o h cs = paired _ _ (reached o h cs .sound)
+
+-- "p is 0 to 3", and every set is of the n qubits: rows and axes, of any kind and qubit
+pub rows-small : (o : Opening) → openAnswer o ≡ 0 → (cs : List Lent) → let s : State = calls cs (opened o) in
+    (kind : Kind) (q : ℕ) → Small (s .given .n) (axis paulis kind q (s .frame))
+rows-small o h cs kind q = within-axis _ kind q _ (reached o h cs .within)
+
+-- every axis has a sign, y too
+pub axes-signed : (o : Opening) → openAnswer o ≡ 0 → (cs : List Lent) → let s : State = calls cs (opened o) in
+    (kind : Kind) (q : ℕ) → q < s .given .n → HasSign (axis paulis kind q (s .frame))
+axes-signed o h cs kind q there = has-sign _ (even-axis _ _ kind q (reached o h cs .sound) there)
 
 -- ---- 3. products and signs (a row's sign is never lost by a gate: `gate-keeps`)
 
@@ -123,7 +139,29 @@ pub look-signed : (o : Opening) → openAnswer o ≡ 0 → (cs : List Lent) → 
     (kind : Kind) (q id steps : ℕ) (g : ℤ) → q < s .given .n → look kind q s ≡ found id g steps → IsSign g
 look-signed o h cs = look-sign (calls cs (opened o)) (reached o h cs)
 
--- "Numbers count from 0 in order of recording and are never used again": an event stays where it is with all but its life
+-- "A look records nothing and changes no later answer or count." Nor does a read.
+pub look-changes-nothing : (kind : Kind) (q w : ℕ) (s : State) → call (callLook kind q) w s ≡ s
+unfolding call effect
+look-changes-nothing kind q w s = either-way (eqb (answerTo (callLook kind q) w s) 0) s
+
+pub read-changes-nothing : (id w : ℕ) (s : State) → call (callRead id) w s ≡ s
+unfolding call effect
+read-changes-nothing id w s = either-way (eqb (answerTo (callRead id) w s) 0) s
+
+-- "no rotation recorded so far can be found"
+pub clear-hides : (w : ℕ) (s : State) (p : Pauli) (id : ℕ) → answerTo callClear w s ≡ 0 → Match (call callClear w s) p id → ⊥
+clear-hides = cleared-none
+
+-- "Numbers count from 0 in order of recording and are never used again": every event was recorded by one accepted call, its number is how many
+-- there were before it,
+pub events-recorded : (o : Opening) (cs : List Lent) (i : ℕ) → i < length (calls cs (opened o) .events) → Recorded cs (opened o) i
+events-recorded = all-recorded-since
+
+-- there are at most E of them,
+pub events-fit : (o : Opening) → openAnswer o ≡ 0 → (cs : List Lent) → length (calls cs (opened o) .events) ≤ calls cs (opened o) .given .capacity
+events-fit o h cs = reached o h cs .room
+
+-- and each stays where it is, as it is, until it dies
 pub events-stay : (c : Call) (w : ℕ) (s : State) (i : ℕ) → isOpening c ≡ false → i < length (s .events)
     → (i < length (call c w s .events)) × SameEvent (eventAt (call c w s .events) i) (eventAt (s .events) i)
 events-stay = stays

@@ -12,7 +12,7 @@ use Rattle.model.specs.Frame.{Rows, Kind, axis, paulis, gate, turn, fres
 use Rattle.model.specs.Sketch.{Label, noLabel, labels}
 use Rattle.model.specs.Events.{Body, rotation, blocker, Event, scalar, Opening, State, noEvent, eventAt, liveAt, isRotation, record1, recordAll, killed, kill, clear}
 use Rattle.model.specs.Search.{signAt, Look, found, none, blocked, out, look}
-use Rattle.model.specs.Calls.{openAnswer, opened, Call, callOpen, callGate, callTurn, callRecord, callMeasure, callReset, callCcx, callCcz, callKill, callRead, callClear, callLook, Lent, answer, answerTo, gateQubits, notReadable, notKillable, tagAt, reading, Reply, refused, accepted, recorded, says, looked, replyOf, reply, reframed, rotationOf, after, call, replies}
+use Rattle.model.specs.Calls.{openAnswer, opened, Call, callOpen, callGate, callTurn, callRecord, callMeasure, callReset, callCcx, callCcz, callKill, callRead, callClear, callLook, Lent, answer, answerTo, gateQubits, notReadable, notKillable, tagAt, reading, Reply, refused, accepted, recorded, says, looked, replyOf, reply, reframed, rotationOf, effect, call, replies}
 use Rattle.model.specs.Demands.{Match, Newest, InTheWay, Says, SameLook, SameReply, SameReplies}
 use Rattle.model.proofs.Labels.{map-set}
 use Rattle.model.proofs.Good.{Good, good-look, good-call, good-open}
@@ -28,7 +28,7 @@ unfoldable pub bareEvent : Event → Event
 bareEvent e = record { body = bareBody (e .body); x = e .x; z = e .z; live = e .live }
 
 unfoldable pub bareOpening : Opening → Opening
-bareOpening o = record { n = o .n; capacity = o .capacity; allowance = 0; form = scalar; labels = []; size = o .size }
+bareOpening o = record { n = o .n; capacity = o .capacity; allowance = 0; form = scalar; labelWords = []; size = o .size }
 
 unfoldable pub bareOf : Opening → Rows Pauli → List Event → (cleared : ℕ) → State
 bareOf given frame events cleared = record {
@@ -242,8 +242,8 @@ bare-clear : (s : State) → bare (clear s) ≡ bare (clear (bare s))
 unfolding bare clear
 bare-clear s = ap₂ (λ (es : List Event) (c : ℕ). bareOf (s .given) (s .frame) es c) (sym (map-twice (s .events))) (sym (length-map (s .events) bareEvent))
 
-pub after-bare : (c : Call) (w : ℕ) (s : State) → bare (after c w s) ≡ bare (after c w (bare s))
-unfolding after
+pub after-bare : (c : Call) (w : ℕ) (s : State) → bare (effect c w s) ≡ bare (effect c w (bare s))
+unfolding effect
 after-bare (callOpen n E A form ws) w s = refl
 after-bare (callGate g) w s = unfold bare in bare-frame s (gate paulis g (s .frame)) (gate labels g (s .sketch)) _
 after-bare (callTurn kind k q) w s = unfold bare in bare-frame s (turn paulis kind k q (s .frame)) (turn labels kind k q (s .sketch)) _
@@ -267,8 +267,8 @@ module _ (s t : State) (h : bare s ≡ bare t) where
   unfolding call
   twin-call c w = rw (twin-answer c w) (go (eqb (answerTo c w t) 0))
     where
-      go : (b : Bool) → bare (cond b (after c w s) s) ≡ bare (cond b (after c w t) t)
-      go true = after-bare c w s ∙ ap (λ (v : State). bare (after c w v)) h ∙ sym (after-bare c w t)
+      go : (b : Bool) → bare (cond b (effect c w s) s) ≡ bare (cond b (effect c w t) t)
+      go true = after-bare c w s ∙ ap (λ (v : State). bare (effect c w v)) h ∙ sym (after-bare c w t)
       go false = h
 
   twin-frame : s .frame ≡ t .frame
@@ -342,4 +342,4 @@ twin-openings o p en ec es h k cs = twin-replies cs (opened o) (opened p) (good-
     alike : bare (opened o) ≡ bare (opened p)
     alike =
         unfold bare opened in
-        λ i. bareOf (record { n = en i; capacity = ec i; allowance = 0; form = scalar; labels = []; size = es i }) (fresh (en i)) [] 0
+        λ i. bareOf (record { n = en i; capacity = ec i; allowance = 0; form = scalar; labelWords = []; size = es i }) (fresh (en i)) [] 0

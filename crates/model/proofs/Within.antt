@@ -6,8 +6,10 @@ use native.Mathlib.Omega.{arith}
 use lib.ListN.{getD, set}
 use lib.Pow.{pow-pos, pow-lt}
 use lib.Bits.{xor-lt}
-use lib.Dec.{eqb}
+use native.Mathlib.Nat.{mod-lt}
+use lib.Dec.{eqb, lit<}
 use Rattle.model.specs.Pauli.{Pauli, times, shift, plain}
+use Rattle.model.specs.Demands.{Small}
 use Rattle.model.specs.Frame.{Ops, Rows, Kind, kindX, kindY, kindZ, kindP, Gate, H, X, Y, Z, S, Sdg, Sx, Cnot, Cz, Swap, Cy, xAt, zAt, setX, setZ, gateH, gateS, gateZ, gateX, gateCnot, gateCz, gateSwap, gate, turnZ, turn, axis, paulis, from, pauliX, pauliZ, fresh}
 
 -- ---- what is closed under products and turns holds of every row
@@ -98,44 +100,45 @@ module _ {A : Type 0} (o : Ops A) (P : A → Type 0) (pm : (a b : A) → P a →
 
 -- ---- rows over n qubits
 
-abbrev pub Below : ℕ → Pauli → Type 0
-Below n p = (p .x < 2 ^ n) × (p .z < 2 ^ n)
-
-pub below-times : (n : ℕ) (a b : Pauli) → Below n a → Below n b → Below n (times a b)
+pub small-times : (n : ℕ) (a b : Pauli) → Small n a → Small n b → Small n (times a b)
 unfolding times
-below-times n a b h k = (xor-lt n (a .x) (b .x) (h .0) (k .0), xor-lt n (a .z) (b .z) (h .1) (k .1))
+small-times n a b h k = record {
+  phase-small = mod-lt _ (lit< tt);
+  x-small = xor-lt n (a .x) (b .x) (h .x-small) (k .x-small);
+  z-small = xor-lt n (a .z) (b .z) (h .z-small) (k .z-small);
+}
 
-below-shift : (n k : ℕ) (a : Pauli) → Below n a → Below n (shift k a)
+small-shift : (n k : ℕ) (a : Pauli) → Small n a → Small n (shift k a)
 unfolding shift
-below-shift n k a h = h
+small-shift n k a h = record { phase-small = mod-lt _ (lit< tt); x-small = h .x-small; z-small = h .z-small }
 
--- every row's sets are of the n qubits
+-- every row is over the n qubits
 abbrev pub Within : ℕ → Rows Pauli → Type 0
-Within n r = All paulis (Below n) r
+Within n r = All paulis (Small n) r
 
 pub within-gate : (n : ℕ) (g : Gate) (r : Rows Pauli) → Within n r → Within n (gate paulis g r)
 unfolding paulis
-within-gate n = all-gate paulis (Below n) (below-times n) (below-shift n)
+within-gate n = all-gate paulis (Small n) (small-times n) (small-shift n)
 
 pub within-turn : (n : ℕ) (kind : Kind) (k q : ℕ) (r : Rows Pauli) → Within n r → Within n (turn paulis kind k q r)
 unfolding paulis
-within-turn n = all-turn paulis (Below n) (below-times n) (below-shift n)
+within-turn n = all-turn paulis (Small n) (small-times n) (small-shift n)
 
-pub within-axis : (n : ℕ) (kind : Kind) (q : ℕ) (r : Rows Pauli) → Within n r → Below n (axis paulis kind q r)
+pub within-axis : (n : ℕ) (kind : Kind) (q : ℕ) (r : Rows Pauli) → Within n r → Small n (axis paulis kind q r)
 unfolding paulis
-within-axis n = all-axis paulis (Below n) (below-times n) (below-shift n)
+within-axis n = all-axis paulis (Small n) (small-times n) (small-shift n)
 
-below-x : (n q : ℕ) → q < n → Below n (pauliX q)
+small-x : (n q : ℕ) → q < n → Small n (pauliX q)
 unfolding pauliX
-below-x n q h = (pow-lt h, pow-pos n)
+small-x n q h = record { phase-small = lit< tt; x-small = pow-lt h; z-small = pow-pos n }
 
-below-z : (n q : ℕ) → q < n → Below n (pauliZ q)
+small-z : (n q : ℕ) → q < n → Small n (pauliZ q)
 unfolding pauliZ
-below-z n q h = (pow-pos n, pow-lt h)
+small-z n q h = record { phase-small = lit< tt; x-small = pow-pos n; z-small = pow-lt h }
 
-below-plain : (n : ℕ) → Below n plain
+small-plain : (n : ℕ) → Small n plain
 unfolding plain
-below-plain n = (pow-pos n, pow-pos n)
+small-plain n = record { phase-small = lit< tt; x-small = pow-pos n; z-small = pow-pos n }
 
 getD-all : (P : Pauli → Type 0) (f : ℕ → Pauli) (d : Pauli) → P d → (k n q : ℕ) → ((i : ℕ) → i < k + n → P (f i)) → P (getD (map f (from k n)) q d)
 unfolding from
@@ -146,6 +149,6 @@ getD-all P f d p k (suc n) (suc q) h = getD-all P f d p (suc k) n q (λ i u. h i
 pub within-fresh : (n : ℕ) → Within n (fresh n)
 unfolding fresh xAt zAt paulis
 within-fresh n = record {
-  all-x = (λ q. getD-all (Below n) pauliX plain (below-plain n) 0 n q (λ i u. below-x n i (omega arith)));
-  all-z = (λ q. getD-all (Below n) pauliZ plain (below-plain n) 0 n q (λ i u. below-z n i (omega arith)));
+  all-x = (λ q. getD-all (Small n) pauliX plain (small-plain n) 0 n q (λ i u. small-x n i (omega arith)));
+  all-z = (λ q. getD-all (Small n) pauliZ plain (small-plain n) 0 n q (λ i u. small-z n i (omega arith)));
 }

@@ -19,7 +19,7 @@ unfoldable pub tooWide : Form → (n : ℕ) → Bool
 tooWide scalar n = false
 tooWide sliced n = ltb 32 n
 
--- "n is 1 to 23,168 (4nl must not pass 2^25)" (`frame-limit`); "A is 0 to 1,048,576. E is at least 1 and 2lE at most 2^25." "At opening 1, 2, 3."
+-- "n is 1 to 23,168 (4nl must not pass 2^25)" (`qubit-limit`); "A is 0 to 1,048,576. E is at least 1 and 2lE at most 2^25." "At opening 1, 2, 3."
 unfoldable pub openNumber : (n E A : ℕ) → Form → (labelWords storeWords : ℕ) → ℕ
 openNumber n E A form labelWords storeWords =
     cond (eqb n 0 || ltb (2 ^ 25) (4 * n * words n) || ltb (2 ^ 20) A || tooWide form n) 1
@@ -27,13 +27,13 @@ openNumber n E A form labelWords storeWords =
     (cond (not (eqb labelWords (4 * n)) || ltb storeWords (need n E form)) 3 0))
 
 unfoldable pub openAnswer : Opening → ℕ
-openAnswer o = openNumber (o .n) (o .capacity) (o .allowance) (o .form) (length (o .labels)) (o .size)
+openAnswer o = openNumber (o .n) (o .capacity) (o .allowance) (o .form) (length (o .labelWords)) (o .size)
 
 unfoldable pub opened : Opening → State
 opened o = record {
   given = o;
   frame = fresh (o .n);
-  sketch = labelRows (o .labels);
+  sketch = labelRows (o .labelWords);
   events = [];
   lists = replicate (listCount (o .form) (o .n)) [];
   cleared = 0;
@@ -59,7 +59,7 @@ pub record Lent : Type 0 where
 
 -- what an opening call gives, on a store of so many words
 unfoldable pub opening : (n E A : ℕ) → Form → List ℕ → (storeWords : ℕ) → Opening
-opening n E A form ws storeWords = record { n = n; capacity = E; allowance = A; form = form; labels = ws; size = storeWords }
+opening n E A form ws storeWords = record { n = n; capacity = E; allowance = A; form = form; labelWords = ws; size = storeWords }
 
 -- ---- the answer numbers
 
@@ -178,23 +178,23 @@ unfoldable pub seven : (a b t : Pauli) → List Pauli
 seven a b t = a ∷ b ∷ times a b ∷ t ∷ times a t ∷ times b t ∷ times (times a b) t ∷ []
 
 -- "measure records z[q]; reset z[q], then x[q]; ccx and ccz record the seven products [..] (x for ccx, z for ccz)"
-unfoldable pub after : Call → (storeWords : ℕ) → State → State
-after (callOpen n E A form ws) w s = opened (opening n E A form ws w)
-after (callGate g) w s = reframed (gate paulis g (s .frame)) (gate labels g (s .sketch)) s
-after (callTurn kind k q) w s = reframed (turn paulis kind k q (s .frame)) (turn labels kind k q (s .sketch)) s
-after (callRecord kind q tag) w s = record1 (rotationOf kind q tag s) s
-after (callMeasure q) w s = record1 (blockerOn (zAt paulis (s .frame) q)) s
-after (callReset q) w s = recordAll (blockerOn (zAt paulis (s .frame) q) ∷ blockerOn (xAt paulis (s .frame) q) ∷ []) s
-after (callCcx a b t) w s = recordAll (map blockerOn (seven (zAt paulis (s .frame) a) (zAt paulis (s .frame) b) (xAt paulis (s .frame) t))) s
-after (callCcz a b t) w s = recordAll (map blockerOn (seven (zAt paulis (s .frame) a) (zAt paulis (s .frame) b) (zAt paulis (s .frame) t))) s
-after (callKill id) w s = kill id s
-after (callRead id) w s = s
-after callClear w s = clear s
-after (callLook kind q) w s = s
+unfoldable pub effect : Call → (storeWords : ℕ) → State → State
+effect (callOpen n E A form ws) w s = opened (opening n E A form ws w)
+effect (callGate g) w s = reframed (gate paulis g (s .frame)) (gate labels g (s .sketch)) s
+effect (callTurn kind k q) w s = reframed (turn paulis kind k q (s .frame)) (turn labels kind k q (s .sketch)) s
+effect (callRecord kind q tag) w s = record1 (rotationOf kind q tag s) s
+effect (callMeasure q) w s = record1 (blockerOn (zAt paulis (s .frame) q)) s
+effect (callReset q) w s = recordAll (blockerOn (zAt paulis (s .frame) q) ∷ blockerOn (xAt paulis (s .frame) q) ∷ []) s
+effect (callCcx a b t) w s = recordAll (map blockerOn (seven (zAt paulis (s .frame) a) (zAt paulis (s .frame) b) (xAt paulis (s .frame) t))) s
+effect (callCcz a b t) w s = recordAll (map blockerOn (seven (zAt paulis (s .frame) a) (zAt paulis (s .frame) b) (zAt paulis (s .frame) t))) s
+effect (callKill id) w s = kill id s
+effect (callRead id) w s = s
+effect callClear w s = clear s
+effect (callLook kind q) w s = s
 
 -- "Nothing is written on 1 to 8."
 unfoldable pub call : Call → (storeWords : ℕ) → State → State
-call c w s = let s′ : State = after c w s in cond (eqb (answerTo c w s) 0) s′ s
+call c w s = let s′ : State = effect c w s in cond (eqb (answerTo c w s) 0) s′ s
 
 -- calls in a row, accepted or refused: the state that they leave, and what each of them gives back
 unfoldable pub calls : List Lent → State → State

@@ -1,9 +1,9 @@
 -- The words of the theorems (proofs/Theorems.antt): what the mission's demands and 01's sentences say of a state, a look or a run. Assumes nothing.
-use Prim.Native.Nat.{ℕ, zero, suc, _*_, _/_, _%_, _≤_, _<_}
+use Prim.Native.Nat.{ℕ, zero, suc, _+_, _*_, _/_, _%_, _^_, _≤_, _<_}
 use mathlib.Core.Path.{_≡_}
 use mathlib.Core.Logic.{_≢_, _⊎_, _↔_}
 use mathlib.Core.Bool.{Bool, true, false}
-use mathlib.Core.List.{List, [], _∷_}
+use mathlib.Core.List.{List, [], _∷_, _++_, map}
 use lib.ListN.{length}
 use lib.Bits.{bitAnd}
 use lib.IntN.{ℤ, pos, negsuc, _*ℤ_}
@@ -11,9 +11,9 @@ use lib.Dec.{eqb}
 use Rattle.model.specs.Pauli.{Pauli, count, sign, apart, anti}
 use Rattle.model.specs.Frame.{Rows, Kind, Gate, H, X, Y, Z, S, Sdg, Sx, Cnot, Cz, Swap, Cy, xAt, zAt, axis, paulis}
 use Rattle.model.specs.Sketch.{Label, labelXor, noLabel, labels, labelRows}
-use Rattle.model.specs.Events.{Body, rotation, blocker, Event, Form, scalar, sliced, State, plane, keep, touches, eventAt, liveAt, isRotation, dead}
+use Rattle.model.specs.Events.{Body, rotation, blocker, Event, Form, scalar, sliced, State, plane, keep, touches, eventAt, liveAt, isRotation, blockerOn, dead}
 use Rattle.model.specs.Search.{listAt, signAt, Look, found, none, blocked, out}
-use Rattle.model.specs.Calls.{Call, callOpen, callGate, callTurn, callRecord, callMeasure, callReset, callCcx, callCcz, callKill, callRead, callClear, callLook, Reply, refused, accepted, recorded, says, looked}
+use Rattle.model.specs.Calls.{Call, callOpen, callGate, callTurn, callRecord, callMeasure, callReset, callCcx, callCcz, callKill, callRead, callClear, callLook, Lent, answerTo, rotationOf, seven, calls, Reply, refused, accepted, recorded, says, looked}
 
 module _ {A : Type 0} where
   -- i is an element of a list
@@ -44,6 +44,12 @@ Signed blocker = Unit {0}
 -- The row of the same axis whose sign is +1: i for each qubit in both sets.
 unfoldable pub positive : Pauli → Pauli
 positive p = record { phase = count (bitAnd (p .x) (p .z)) % 4; x = p .x; z = p .z }
+
+-- a row over n qubits: "p is 0 to 3"
+pub record Small (n : ℕ) (p : Pauli) : Type 0 where
+  pub phase-small : p .phase < 4
+  pub x-small : p .x < 2 ^ n
+  pub z-small : p .z < 2 ^ n
 
 -- Every row has a sign, x[q] and z[q] anticommute, and all other pairs of rows commute.
 pub record Paired (n : ℕ) (r : Rows Pauli) : Type 0 where
@@ -93,11 +99,11 @@ Labelled o x z blocker = Unit {0}
 
 -- The sketch has the label of each row and of each axis, and each rotation that of its own.
 pub record Sketched (s : State) : Type 0 where
-  pub x-label : (q : ℕ) → xAt labels (s .sketch) q ≡ labelOf (labelRows (s .given .labels)) (xAt paulis (s .frame) q)
-  pub z-label : (q : ℕ) → zAt labels (s .sketch) q ≡ labelOf (labelRows (s .given .labels)) (zAt paulis (s .frame) q)
-  pub axis-label : (k : Kind) (q : ℕ) → axis labels k q (s .sketch) ≡ labelOf (labelRows (s .given .labels)) (axis paulis k q (s .frame))
+  pub x-label : (q : ℕ) → xAt labels (s .sketch) q ≡ labelOf (labelRows (s .given .labelWords)) (xAt paulis (s .frame) q)
+  pub z-label : (q : ℕ) → zAt labels (s .sketch) q ≡ labelOf (labelRows (s .given .labelWords)) (zAt paulis (s .frame) q)
+  pub axis-label : (k : Kind) (q : ℕ) → axis labels k q (s .sketch) ≡ labelOf (labelRows (s .given .labelWords)) (axis paulis k q (s .frame))
   pub event-label : (i : ℕ) → i < length (s .events)
-      → Labelled (labelRows (s .given .labels)) (eventAt (s .events) i .x) (eventAt (s .events) i .z) (eventAt (s .events) i .body)
+      → Labelled (labelRows (s .given .labelWords)) (eventAt (s .events) i .x) (eventAt (s .events) i .z) (eventAt (s .events) i .body)
 
 -- ---- demand 3: the lists
 
@@ -171,13 +177,42 @@ pub record Exactly (s : State) (p : Pauli) (a : Look) : Type 0 where
   pub finds-none : ((steps : ℕ) × (a ≡ none steps)) ↔ ((id : ℕ) → Match s p id → ⊥)
   pub is-blocked : ((steps : ℕ) × (a ≡ blocked steps)) ↔ ((id : ℕ) × (j : ℕ) × Newest s p id × InTheWay s p id j)
 
--- ---- events stay
+-- ---- events
 
--- an event but for whether it is live
+-- what a call records when it is accepted
+unfoldable pub recordedBy : Call → State → List Event
+recordedBy (callOpen n E A form ws) s = []
+recordedBy (callGate g) s = []
+recordedBy (callTurn kind k q) s = []
+recordedBy (callRecord kind q tag) s = rotationOf kind q tag s ∷ []
+recordedBy (callMeasure q) s = blockerOn (zAt paulis (s .frame) q) ∷ []
+recordedBy (callReset q) s = blockerOn (zAt paulis (s .frame) q) ∷ blockerOn (xAt paulis (s .frame) q) ∷ []
+recordedBy (callCcx a b t) s = map blockerOn (seven (zAt paulis (s .frame) a) (zAt paulis (s .frame) b) (xAt paulis (s .frame) t))
+recordedBy (callCcz a b t) s = map blockerOn (seven (zAt paulis (s .frame) a) (zAt paulis (s .frame) b) (zAt paulis (s .frame) t))
+recordedBy (callKill id) s = []
+recordedBy (callRead id) s = []
+recordedBy callClear s = []
+recordedBy (callLook kind q) s = []
+
+-- event a is event b but for whether it is live, and it does not come back to life
 pub record SameEvent (a b : Event) : Type 0 where
   pub body : a .body ≡ b .body
   pub x : a .x ≡ b .x
   pub z : a .z ≡ b .z
+  pub dead-stays : b .live ≡ false → a .live ≡ false
+
+-- event i of the state that the calls cs left, from s on, was recorded by the call `by`, which was accepted after the calls `before`: it is number
+-- `place` of what that call recorded
+pub record Recorded (cs : List Lent) (s : State) (i : ℕ) : Type 0 where
+  pub before : List Lent
+  pub by : Lent
+  pub behind : List Lent
+  pub split : cs ≡ before ++ (by ∷ behind)
+  pub was-accepted : answerTo (by .call) (by .store) (calls before s) ≡ 0
+  pub place : ℕ
+  pub there : place < length (recordedBy (by .call) (calls before s))
+  pub number : i ≡ length (calls before s .events) + place
+  pub same : SameEvent (eventAt (calls cs s .events) i) (eventAt (recordedBy (by .call) (calls before s)) place)
 
 unfoldable pub isOpening : Call → Bool
 isOpening (callOpen n E A form ws) = true

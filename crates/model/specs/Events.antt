@@ -26,13 +26,13 @@ pub record Event : Type 0 where
 pub data Form : Type 0 where
   scalar sliced : Form
 
--- What an opening is given, 01's n, E, A, form and labels, and the words of the store lent to it. It stays as it is until the next opening.
+-- What an opening is given, 01's n, E, A, form and labels, and how many words of store are lent to it. It stays as it is until the next opening.
 pub record Opening : Type 0 where
   pub n : ℕ
   pub capacity : ℕ
   pub allowance : ℕ
   pub form : Form
-  pub labels : List ℕ
+  pub labelWords : List ℕ
   pub size : ℕ
 
 pub record State : Type 0 where

@@ -1,6 +1,6 @@
 -- Everything that a reader has to believe: the definitions of document 01 ("01"), which compute. The theorems about them stand in proofs/,
 -- and no definition rests on one.
--- The rules, in 01's order.
+-- The rules, each file over those before it.
 pub mod Pauli
 pub mod Frame
 pub mod Sketch

@@ -19,7 +19,7 @@ countIn zero s = 0
 countIn (suc d) zero = 0
 countIn (suc d) (suc s) = suc s % 2 + countIn d (suc s / 2)
 
--- How many qubits are in a set: a number s has no more than s digits. It is the library's `ones` (`count-ones`), which computes for small s only.
+-- How many qubits are in a set: a number s has no more than s digits. It is the library's `ones` (`count-is-ones`), which computes for small s only.
 unfoldable pub count : ℕ → ℕ
 unfolding countIn
 count s = countIn s s

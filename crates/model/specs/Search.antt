@@ -12,7 +12,7 @@ use Rattle.model.specs.Events.{Body, rotation, blocker, Event, Form, sca
 
 -- ---- spending
 
--- a piece of work: what it costs, whether the search stops there once it is paid, and the event that it stops at
+-- a piece of work: what it costs, whether the search stops there once it is paid, and the event that it stops at (a block names none, 0)
 pub record Work : Type 0 where
   pub cost : ℕ
   pub stops : Bool

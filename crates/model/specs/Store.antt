@@ -26,7 +26,7 @@ countRoom f n = 2 * listCount f n
 unfoldable pub chainRoom : (E : ℕ) → ℕ
 chainRoom E = 2 * E + E
 
--- for each event its label (two words), its tag, sign and kind (one) and its signature (one)
+-- for each event its label (two words), its tag, its sign and whether it is a rotation (one) and its signature (one)
 unfoldable pub eventRoom : (E : ℕ) → ℕ
 eventRoom E = 2 * E + E + E
 

@@ -1,13 +1,13 @@
--- The paper's updates, computed: every gate of 01 on all letters of one or two qubits, and rows of gates backwards on X0, X1, Z0 and Z1, each against
--- matrices (tools/gate_images.py). Assumes nothing.
+-- The paper's definitions, computed: the letters, the exponents of their products, every gate of 01 on all letters of one or two qubits and rows of
+-- gates backwards on X0, X1, Z0 and Z1, all against matrices (tools/gate_images.py); and that our frame and our readings agree. Assumes nothing.
 use Prim.Native.Nat.{ℕ}
 use mathlib.Core.Path.{_≡_, refl}
 use mathlib.Core.List.{List, [], _∷_, map, _++_}
 use lib.IntN.{ℤ, pos, negsuc}
 use Rattle.model.specs.Pauli.{countIn, count, times, shift, plain, quarter}
 use Rattle.model.specs.Frame.{Gate, H, X, Y, Z, S, Sdg, Sx, Cnot, Cz, Swap, Cy, kindX, kindZ, xAt, zAt, setX, setZ, gateH, gateS, gateZ, gateX, gateCnot, gateCz, gateSwap, gate, paulis, from, pauliX, pauliZ, fresh}
-use Rattle.paper.specs.Tableau.{Row, bit, plus, add, update, run, undo, inverse, g, exponent, mod4, total, rowsum}
-use Rattle.paper.specs.Reading.{toRow, ofRow, single, circuit, circuits, gates}
+use Rattle.paper.specs.Tableau.{Row, Letter, letter, I, bit, plus, add, update, run, undo, inverse, g, exponent, mod4, total, rowsum}
+use Rattle.paper.specs.Bridge.{toRow, ofRow, single, circuit, circuits, gates}
 
 -- a row with the sign bit 0
 unfoldable pub plainRow : (x z : ℕ) → Row
@@ -48,6 +48,7 @@ factors =
     ∷ g 1 1 0 0 ∷ g 1 1 1 0 ∷ g 1 1 1 1 ∷ g 1 1 0 1 ∷ g 0 1 0 0 ∷ g 0 1 1 0 ∷ g 0 1 1 1 ∷ g 0 1 0 1 ∷ []
 
 pub record Tables : Type 0 where
+  pub names : map (λ w. letter (bit (w .x) 0) (bit (w .z) 0)) onOne ≡ I ∷ Letter.X ∷ Letter.Y ∷ Letter.Z ∷ []
   pub letters : factors ≡ pos 0 ∷ pos 0 ∷ pos 0 ∷ pos 0 ∷ pos 0 ∷ pos 0 ∷ pos 1 ∷ negsuc 0 ∷ pos 0 ∷ negsuc 0 ∷ pos 0 ∷ pos 1 ∷ pos 0 ∷ pos 1 ∷ negsuc 0 ∷ pos 0 ∷ []
   pub h : one (H 0) ≡ (0 ∷ 0 ∷ 0 ∷ []) ∷ (0 ∷ 0 ∷ 1 ∷ []) ∷ (1 ∷ 1 ∷ 1 ∷ []) ∷ (0 ∷ 1 ∷ 0 ∷ []) ∷ []
   pub x : one (X 0) ≡ (0 ∷ 0 ∷ 0 ∷ []) ∷ (0 ∷ 1 ∷ 0 ∷ []) ∷ (1 ∷ 1 ∷ 1 ∷ []) ∷ (1 ∷ 0 ∷ 1 ∷ []) ∷ []
@@ -86,8 +87,9 @@ pub record Tables : Type 0 where
   pub sum : rowsum 2 (plainRow 3 0) (plainRow 0 3) ≡ record { r = 1; x = 3; z = 3 }
 
 pub tables : Tables
-unfolding countIn count times shift plain quarter xAt zAt setX setZ gateH gateS gateZ gateX gateCnot gateCz gateSwap gate paulis from pauliX pauliZ fresh bit plus add update run undo inverse g exponent mod4 total rowsum toRow ofRow single circuit circuits gates plainRow triple onOne withX onTwo one two through ours factors
+unfolding letter countIn count times shift plain quarter xAt zAt setX setZ gateH gateS gateZ gateX gateCnot gateCz gateSwap gate paulis from pauliX pauliZ fresh bit plus add update run undo inverse g exponent mod4 total rowsum toRow ofRow single circuit circuits gates plainRow triple onOne withX onTwo one two through ours factors
 tables = record {
+  names = refl;
   letters = refl;
   h = refl;
   x = refl;

@@ -11,7 +11,7 @@ use Rattle.model.specs.Pauli.{Pauli, has, count, times, shift, plain, quarter}
 use Rattle.model.proofs.Digits.{has-lt, has-xor, has-zero, on-two, on-pair, toggle, toggle-zero, has-toggle, has-toggle-other, toggle-xor, count-toggle}
 use Rattle.model.proofs.Products.{m4-add, m4-cancel, m4-mod, m4-low, twice-mod, twice-bit, quarter-whole, Even}
 use Rattle.paper.specs.Tableau.{bit, plus, add, Step, cnot, hadamard, phase, update, run}
-use Rattle.paper.specs.Reading.{toRow}
+use Rattle.paper.specs.Bridge.{toRow}
 
 -- ---- the steps in our form
 

@@ -10,14 +10,16 @@ use borrow.Author.Tests.{eqb-true}
 use Rattle.model.specs.Pauli.{Pauli, count, times, shift, quarter}
 use Rattle.model.specs.Frame.{Rows, Kind, kindX, kindY, kindZ, kindP, Gate, H, S, Sdg, gateH, gateS, gate, turnZ, turn, axis, paulis, pauliX, pauliZ, fresh}
 use Rattle.model.specs.Events.{Event, Opening, State, record1, recordAll, kill, clear}
-use Rattle.model.specs.Calls.{opened, opening, Call, callOpen, callGate, callTurn, callRecord, callMeasure, callReset, callCcx, callCcz, callKill, callRead, callClear, callLook, Lent, answerTo, gateQubits, reframed, after, call, calls}
+use Rattle.model.specs.Calls.{opened, opening, Call, callOpen, callGate, callTurn, callRecord, callMeasure, callReset, callCcx, callCcz, callKill, callRead, callClear, callLook, Lent, answerTo, gateQubits, reframed, effect, call, calls}
 use Rattle.model.proofs.Counts.{count-zero, count-one}
 use Rattle.model.proofs.Products.{Even}
 use Rattle.model.proofs.Invariant.{fresh-x, fresh-z}
 use Rattle.model.proofs.Labels.{mapRows, map-axis}
+use Rattle.model.specs.Demands.{Small}
+use Rattle.model.proofs.Within.{Within, within-gate, within-axis, within-fresh}
 use Rattle.model.proofs.Good.{Passed, passed, gate-fits, inside-mem}
 use Rattle.paper.specs.Tableau.{Step, run, undo, inverse}
-use Rattle.paper.specs.Reading.{toRow, single, circuit, circuits, gates, AllFit, aboutZ, turnGates, heard, applied}
+use Rattle.paper.specs.Bridge.{toRow, single, circuit, circuits, gates, AllFit, aboutZ, turnGates, heard, applied}
 use Rattle.paper.proofs.Conjugate.{conj, AllApart, conj-reads, conj-even, conj-times, conj-shift, conj-plain}
 use Rattle.paper.proofs.Gates.{Image, apart-append, gate-apart, gate-image}
 
@@ -121,8 +123,8 @@ unfolding recordAll record1
 recorded-frame [] s = refl
 recorded-frame (e ∷ es) s = recorded-frame es (record1 e s)
 
-tracks-after : (c : Call) (w : ℕ) (s : State) (fs : List Gate) → answerTo c w s ≡ 0 → Tracks fs s → Tracks (heard c fs) (after c w s)
-unfolding after heard answerTo
+tracks-after : (c : Call) (w : ℕ) (s : State) (fs : List Gate) → answerTo c w s ≡ 0 → Tracks fs s → Tracks (heard c fs) (effect c w s)
+unfolding effect heard answerTo
 tracks-after (callOpen n E A form ws) w s fs h k = record { fits = tt; rows = (unfold opened opening gates in refl) }
 tracks-after (callGate f) w s fs h k =
     let a : Passed s w (gateQubits f) 0 false = passed s w 0 (gateQubits f) 0 false h in
@@ -150,7 +152,7 @@ tracks-call : (c : Call) (w : ℕ) (s : State) (fs : List Gate) → Tracks fs s 
 unfolding call
 tracks-call c w s fs k = go (eqb (answerTo c w s) 0) refl
   where
-    go : (t : Bool) → eqb (answerTo c w s) 0 ≡ t → Tracks (cond t (heard c fs) fs) (cond t (after c w s) s)
+    go : (t : Bool) → eqb (answerTo c w s) 0 ≡ t → Tracks (cond t (heard c fs) fs) (cond t (effect c w s) s)
     go true e = tracks-after c w s fs (eqb-true (answerTo c w s) 0 e) k
     go false e = k
 
@@ -216,3 +218,12 @@ axis-reads n fs kind q h u = rw (image) (
 
     image : axis paulis kind q (gates fs (fresh n)) ≡ conj c p
     image = ap (axis paulis kind q) (gates-image n fs h) ∙ sym (map-axis paulis paulis (conj c) (conj-times c d) (conj-shift c) (conj-plain c) kind q (fresh n))
+
+-- its phase is 0 to 3, and its sets are of the n qubits
+gates-within : (n : ℕ) (fs : List Gate) (r : Rows Pauli) → Within n r → Within n (gates fs r)
+unfolding gates
+gates-within n [] r w = w
+gates-within n (f ∷ fs) r w = gates-within n fs (gate paulis f r) (within-gate n f r w)
+
+pub axis-small : (n : ℕ) (fs : List Gate) (kind : Kind) (q : ℕ) → Small n (axis paulis kind q (gates fs (fresh n)))
+axis-small n fs kind q = within-axis n kind q (gates fs (fresh n)) (gates-within n fs (fresh n) (within-fresh n))

@@ -18,7 +18,7 @@ use Rattle.model.proofs.Digits.{has-zero, has-pow, has-pow-other, on-pair, togg
 use Rattle.model.proofs.Invariant.{put, put-x, put-z, put-x-other, put-z-other, put-xs, put-zs, h-put, s-put, z-put, x-put, cz-put, cnot-put, swap-put, fresh-x, fresh-z, sound-fresh}
 use Rattle.model.proofs.Labels.{mapRows, map-gate, map-map, at-x, at-z}
 use Rattle.paper.specs.Tableau.{Step, cnot, hadamard, phase, undo, inverse}
-use Rattle.paper.specs.Reading.{circuit}
+use Rattle.paper.specs.Bridge.{circuit}
 use Rattle.paper.proofs.Conjugate.{conjStep, conj, AllApart, step-times, conj-times, conj-shift, conj-plain, conj-append}
 
 -- ---- steps on one qubit: a row with digits x and z at a place, and nothing elsewhere

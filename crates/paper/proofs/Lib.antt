@@ -4,8 +4,10 @@ pub mod Theorems
 pub mod Cases
 -- A step of the paper's in our form respects products and phases, and is the same step.
 pub mod Conjugate
--- Every gate of 01, on the fresh frame and on any image of it; gates in a row, turns and calls.
+-- Every gate of 01, on the fresh frame and on any image of it; gates in a row, turns and calls; row for row; every event.
 pub mod Gates
 pub mod Frames
+pub mod Same
+pub mod Recordings
 -- The product is the rowsum.
 pub mod Rowsum

@@ -15,7 +15,7 @@ use Rattle.model.proofs.Counts.{count-zero, count-cat}
 use Rattle.model.proofs.Digits.{has-lt, on-has, on-pair, has-xor, has-and}
 use Rattle.model.proofs.Products.{m4-add, m4-cancel, m4-mod, twice-bit, quarter-whole, quarter-lt, Even}
 use Rattle.paper.specs.Tableau.{bit, g, exponent, mod4, total, rowsum}
-use Rattle.paper.specs.Reading.{toRow}
+use Rattle.paper.specs.Bridge.{toRow}
 
 -- ---- integers modulo 4
 

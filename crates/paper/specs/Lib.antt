@@ -1,4 +1,4 @@
 -- The paper's tableau, written from the paper alone (`Tableau`), and how a row of ours is read as one of theirs and a gate of 01 as a circuit of
--- theirs (`Reading`).
+-- theirs (`Bridge`).
 pub mod Tableau
-pub mod Reading
+pub mod Bridge

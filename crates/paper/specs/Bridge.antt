@@ -2,15 +2,17 @@
 use Prim.Native.Nat.{ℕ, zero, suc, _+_, _*_, _/_, _%_, _^_}
 use mathlib.Core.Bool.{cond}
 use mathlib.Core.List.{List, [], _∷_, _++_}
-use lib.Bits.{bitAnd}
+use mathlib.Core.Path.{_≡_}
+use lib.Bits.{bitAnd, bitXor}
 use lib.IntN.{ℤ, pos, negsuc}
+use lib.ListN.{getD}
 use lib.Dec.{eqb}
 use Rattle.model.specs.Pauli.{Pauli, count, quarter}
 use Rattle.model.specs.Frame.{Rows, Kind, kindX, kindY, kindZ, kindP, Gate, H, X, Y, Z, S, Sdg, Sx, Cnot, Cz, Swap, Cy, gate, paulis}
-use Rattle.model.specs.Events.{State}
-use Rattle.model.specs.Calls.{Call, callOpen, callGate, callTurn, callRecord, callMeasure, callReset, callCcx, callCcz, callKill, callRead, callClear, callLook, Lent, answerTo, call}
+use Rattle.model.specs.Events.{Body, rotation, blocker, Event, Opening, State}
+use Rattle.model.specs.Calls.{opened, Call, callOpen, callGate, callTurn, callRecord, callMeasure, callReset, callCcx, callCcz, callKill, callRead, callClear, callLook, Lent, answerTo, call}
 use Rattle.model.specs.Demands.{Fits}
-use Rattle.paper.specs.Tableau.{Row, Step, cnot, hadamard, phase}
+use Rattle.paper.specs.Tableau.{Row, Step, cnot, hadamard, phase, run, inverse}
 
 -- ---- rows
 
@@ -99,3 +101,45 @@ applied [] s fs = fs
 applied (c ∷ cs) s fs =
     let more : List Gate = heard (c .call) fs in
     applied cs (call (c .call) (c .store) s) (cond (eqb (answerTo (c .call) (c .store) s) 0) more fs)
+
+-- ---- events
+
+-- two rows as one, signs ignored
+unfoldable pub together : Row → Row → Row
+together a b = record { r = 0; x = bitXor (a .x) (b .x); z = bitXor (a .z) (b .z) }
+
+unfoldable pub sevenRows : (a b t : Row) → List Row
+sevenRows a b t = a ∷ b ∷ together a b ∷ t ∷ together a t ∷ together b t ∷ together (together a b) t ∷ []
+
+-- the rows that an accepted call records, if w gives the row of each kind and qubit
+unfoldable pub theirs : Call → (Kind → ℕ → Row) → List Row
+theirs (callOpen n E A form ws) w = []
+theirs (callGate f) w = []
+theirs (callTurn kind k q) w = []
+theirs (callRecord kind q tag) w = w kind q ∷ []
+theirs (callMeasure q) w = w kindZ q ∷ []
+theirs (callReset q) w = w kindZ q ∷ w kindX q ∷ []
+theirs (callCcx a b t) w = sevenRows (w kindZ a) (w kindZ b) (w kindX t)
+theirs (callCcz a b t) w = sevenRows (w kindZ a) (w kindZ b) (w kindZ t)
+theirs (callKill id) w = []
+theirs (callRead id) w = []
+theirs callClear w = []
+theirs (callLook kind q) w = []
+
+-- an event has the sets of a row and, if it is a rotation, its sign
+abbrev pub SignOf : Body → ℤ → Type 0
+SignOf (rotation tag sgn label) g = sgn ≡ g
+SignOf blocker g = Unit {0}
+
+pub record Is (e : Event) (w : Row) : Type 0 where
+  pub x : e .x ≡ w .x
+  pub z : e .z ≡ w .z
+  pub signed : SignOf (e .body) (rowSign (w .r))
+
+-- row k of some rows
+unfoldable pub rowAt : List Row → ℕ → Row
+rowAt ws k = getD ws k (record { r = 0; x = 0; z = 0 })
+
+-- U†PU for P the letter of a kind on qubit q and U the gates that calls have applied since the opening o
+unfoldable pub carried : Opening → List Lent → Kind → (q : ℕ) → Row
+carried o cs kind q = run (inverse (circuits (applied cs (opened o) []))) (single kind q)
