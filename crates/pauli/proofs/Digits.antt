@@ -3,7 +3,7 @@
 use mathlib.Core.Path.{_≡_, refl, sym, ap, ap₂, _∙_, subst}
 use mathlib.Core.Logic.{_⊎_, inl, inr, ⊎-elim}
 use Prim.Native.Nat.{ℕ, zero, suc, _+_, _-_, _*_, _/_, _%_, _^_, _≤_, _<_, min, max, suc-le-suc}
-use native.Mathlib.Nat.{div-one, div-div-eq-div-mul, mul-comm, pow-suc, zero-mul, one-mul, mod-eq-of-lt, zero-lt-suc, not-suc-le-zero, le-of-suc-le-suc}
+use native.Mathlib.Nat.{div-one, div-div-eq-div-mul, mul-comm, mul-assoc, pow-suc, zero-mul, one-mul, mod-eq-of-lt, zero-lt-suc, not-suc-le-zero, le-of-suc-le-suc}
 use native.Mathlib.Omega.{arith}
 use lib.Arith.{lt-one}
 use lib.Pow.{pow-pos, pow-lt}
@@ -101,16 +101,21 @@ clear-other k w p j l lj d = has-min w ((2 ^ k - 1) - 2 ^ p) j ∙ omega (arith,
 
 -- ---- the lowest set digit of a word
 
--- w is v and its lowest set digit t, of k digits
-record Low (k w t v : ℕ) : Type 0 where
-  place : t < k
-  sum : v + 2 ^ t ≡ w
+-- w is v and its lowest set digit t, of k digits; the digits of v above t are those of `high`, and it has no others
+pub record Low (k w t v : ℕ) : Type 0 where
+  pub place : t < k
+  pub sum : v + 2 ^ t ≡ w
+  pub high : ℕ
+  pub whole : v ≡ high * 2 ^ suc t
   zeros : (j : ℕ) → j ≤ t → has v j ≡ 0
 
 low-zero : (k w : ℕ) → w % 2 ≡ 0 → 0 < w → Low k (w / 2) (trailingZeros k (w / 2)) (bitAnd (w / 2) (w / 2 - 1)) → Low (suc k) w (suc (trailingZeros k (w / 2))) (bitAnd w (w - 1))
 low-zero k w e p ih = record {
   place = suc-le-suc (ih .place);
   sum = omega (arith, pow-suc 2 (trailingZeros k (w / 2)), ih .sum, s);
+  high = ih .high;
+  whole = s ∙ ap (λ (x : ℕ). x * 2) (ih .whole) ∙ mul-assoc (ih .high) (2 ^ suc (trailingZeros k (w / 2))) 2
+      ∙ ap (λ (x : ℕ). ih .high * x) (sym (pow-suc 2 (suc (trailingZeros k (w / 2)))));
   zeros = zs;
 }
   where
@@ -128,6 +133,8 @@ low-one : (k w : ℕ) → w % 2 ≡ 1 → Low (suc k) w 0 (bitAnd w (w - 1))
 low-one k w e = record {
   place = zero-lt-suc k;
   sum = omega (arith, s);
+  high = w / 2;
+  whole = omega (arith, s);
   zeros = λ j l. ap (λ (x : ℕ). has (bitAnd w (w - 1)) x) (omega arith) ∙ has-low (bitAnd w (w - 1)) ∙ omega (arith, s);
 }
   where
@@ -139,7 +146,7 @@ low-one k w e = record {
         and-step w (w - 1) ∙ ap (λ (x : ℕ). bitAnd (w / 2) x * 2 + min (w % 2) ((w - 1) % 2)) half
         ∙ ap (λ (x : ℕ). x * 2 + min (w % 2) ((w - 1) % 2)) (and-self (w / 2)) ∙ omega arith
 
-low : (k w : ℕ) → 0 < w → w < 2 ^ k → Low k w (trailingZeros k w) (bitAnd w (w - 1))
+pub low : (k w : ℕ) → 0 < w → w < 2 ^ k → Low k w (trailingZeros k w) (bitAnd w (w - 1))
 unfolding trailingZeros
 low zero w p h = absurd (not-suc-le-zero (subst (λ (x : ℕ). 0 < x) (lt-one h) p))
 low (suc k) w p h = go (λ q. low k (w / 2) q (half-lt k w h)) (w % 2) refl

@@ -33,17 +33,17 @@ value-same s t (suc n) a b h =
     ap (λ (k : ℕ). getD t k 0) (suc-add b i ∙ sym (add-suc b i)) ∙ h (suc i) (omega arith) ∙ ap (λ (k : ℕ). getD s k 0) (add-suc a i ∙ sym (suc-add a i))))
     (ap (λ (k : ℕ). getD t k 0) (sym (add-zero b)) ∙ h 0 (omega arith) ∙ ap (λ (k : ℕ). getD s k 0) (add-zero a))
 
--- the exclusive or, word by word
-pub value-xor : (s t : List ℕ) (n a b : ℕ) → ((k : ℕ) → getD s k 0 < 2 ^ 64) → ((i : ℕ) → i < n → getD t (a + i) 0 ≡ bitXor (getD s (a + i) 0) (getD s (b + i) 0))
-    → valueAt t a n ≡ bitXor (valueAt s a n) (valueAt s b n)
+-- the exclusive or of the words from a on and from b on, written from c on
+pub value-xor : (s t : List ℕ) (n a b c : ℕ) → ((k : ℕ) → getD s k 0 < 2 ^ 64) → ((i : ℕ) → i < n → getD t (c + i) 0 ≡ bitXor (getD s (a + i) 0) (getD s (b + i) 0))
+    → valueAt t c n ≡ bitXor (valueAt s a n) (valueAt s b n)
 unfolding valueAt
-value-xor s t zero a b w h = refl
-value-xor s t (suc n) a b w h =
+value-xor s t zero a b c w h = refl
+value-xor s t (suc n) a b c w h =
     ap₂ (λ (m v : ℕ). m * 2 ^ 64 + v)
-    (value-xor s t n (suc a) (suc b) w (λ i g.
-    ap (λ (k : ℕ). getD t k 0) (suc-add a i ∙ sym (add-suc a i)) ∙ h (suc i) (omega arith)
+    (value-xor s t n (suc a) (suc b) (suc c) w (λ i g.
+    ap (λ (k : ℕ). getD t k 0) (suc-add c i ∙ sym (add-suc c i)) ∙ h (suc i) (omega arith)
     ∙ ap₂ (λ (k m : ℕ). bitXor (getD s k 0) (getD s m 0)) (add-suc a i ∙ sym (suc-add a i)) (add-suc b i ∙ sym (suc-add b i))))
-    (ap (λ (k : ℕ). getD t k 0) (sym (add-zero a)) ∙ h 0 (omega arith) ∙ ap₂ (λ (k m : ℕ). bitXor (getD s k 0) (getD s m 0)) (add-zero a) (add-zero b))
+    (ap (λ (k : ℕ). getD t k 0) (sym (add-zero c)) ∙ h 0 (omega arith) ∙ ap₂ (λ (k m : ℕ). bitXor (getD s k 0) (getD s m 0)) (add-zero a) (add-zero b))
     ∙ sym (xor-block 64 (valueAt s (suc a) n) (valueAt s (suc b) n) (getD s a 0) (getD s b 0) (w a) (w b))
 
 -- ---- the product of two rows
@@ -136,7 +136,7 @@ halfway-all s t at by l m = record {
 pub multiplied-value : (s t : List ℕ) (at by n o l : ℕ) → ((k : ℕ) → getD s k 0 < 2 ^ 64) → Multiplied s at by n t → o + l ≤ n
     → valueAt t (at + o) l ≡ bitXor (valueAt s (at + o) l) (valueAt s (by + o) l)
 multiplied-value s t at by n o l w m h =
-    value-xor s t l (at + o) (by + o) w (λ i g.
+    value-xor s t l (at + o) (by + o) (at + o) w (λ i g.
     let ea : at + (o + i) ≡ at + o + i = omega arith in
     let eb : by + (o + i) ≡ by + o + i = omega arith in
     ap (λ (k : ℕ). getD t k 0) (sym ea) ∙ m .changed (o + i) (omega arith) ∙ ap₂ (λ (j k : ℕ). bitXor (getD s j 0) (getD s k 0)) ea eb)

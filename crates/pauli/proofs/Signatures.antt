@@ -3,13 +3,13 @@ use mathlib.Core.Path.{_≡_, refl, sym, ap, ap₂, _∙_, subst}
 use mathlib.Core.Logic.{_⊎_, inl, inr}
 use mathlib.Core.List.{List}
 use Prim.Native.Nat.{ℕ, zero, suc, _+_, _-_, _*_, _/_, _%_, _^_, _≤_, _<_, max}
-use native.Mathlib.Nat.{mod-lt, zero-lt-suc, le-refl, le-trans, le-of-eq, lt-of-lt-of-le, le-of-suc-le-suc, not-suc-le-zero, pow-suc, zero-mul, suc-mul, one-mul, mul-comm, mul-assoc, add-mul, zero-add, add-zero, add-comm, add-assoc, eq-or-lt-of-le, zero-mod, zero-div, div-mul-le-self, div-lt-iff-lt-mul, mul-div-cancel, mul-mod-left, mul-le-mul-right, div-add-mod', mul-pos, mod-self}
+use native.Mathlib.Nat.{mod-lt, zero-lt-suc, le-refl, le-trans, le-of-eq, lt-of-lt-of-le, le-of-suc-le-suc, not-suc-le-zero, pow-suc, zero-mul, suc-mul, one-mul, mul-comm, mul-assoc, add-mul, zero-add, add-zero, add-comm, add-assoc, eq-or-lt-of-le, zero-mod, zero-div, div-mul-le-self, div-lt-iff-lt-mul, mul-div-cancel, mul-mod-left, mul-le-mul-right, div-add-mod', mul-pos}
 use native.Mathlib.Numerals.{add-one}
 use native.Mathlib.Omega.{arith}
 use lib.Arith.{bin-ind, digits-lt, digits-div, digits-mod}
 use lib.Pow.{pow-pos, pow-lt, pow-add, shr-shr, high, mod-pow-add, mod-mod-pow}
-use lib.Bits.{bitAnd, bitOr, or-step, or-block, or-zero-r, or-comm, and-block, and-mask, and-self}
-use lib.Count.{trailingZeros, under}
+use lib.Bits.{bitAnd, bitOr, or-step, or-block, or-zero-r, or-comm}
+use lib.Count.{trailingZeros}
 use lib.ListN.{length, getD, drop}
 use lib.Seq.{drop-cons, drop-length}
 use mathlib.Core.Bool.{Bool, cond, not}
@@ -17,6 +17,7 @@ use borrow.Author.Tests.{ne-eqb}
 use lib.Dec.{eqb}
 use Rattle.model.specs.Events.{touches}
 use Rattle.pauli.specs.Rows.{value, touched, signature, blocks, left}
+use Rattle.pauli.proofs.Digits.{low}
 
 -- ---- a set in cells of l qubits
 
@@ -196,42 +197,12 @@ cells-add l h q (suc k) p g = go (λ g′. cells-add l h q k p g′) (eq-or-lt-o
 
 -- ---- the lowest set digit
 
-lowest : (k w : ℕ) → 0 < w → w < 2 ^ k → (h : ℕ) × (w ≡ (h * 2 + 1) * 2 ^ trailingZeros k w) × (trailingZeros k w < k)
-unfolding trailingZeros
-lowest zero w p g = absurd (omega arith)
-lowest (suc k) w p g = go (w % 2) refl (λ p′. lowest k (w / 2) p′ (omega (arith, pow-suc 2 k)))
-  where
-    go : (d : ℕ) → w % 2 ≡ d
-        → (0 < w / 2 → (h : ℕ) × (w / 2 ≡ (h * 2 + 1) * 2 ^ trailingZeros k (w / 2)) × (trailingZeros k (w / 2) < k))
-        → (h : ℕ) × (w ≡ (h * 2 + 1) * 2 ^ under d (trailingZeros k (w / 2))) × (under d (trailingZeros k (w / 2)) < suc k)
-    go zero e ih =
-        let r = ih (omega arith) in
-        let t : ℕ = trailingZeros k (w / 2) in
-        let even : w ≡ w / 2 * 2 = omega arith in (
-          r .0,
-          even ∙ ap (λ (n : ℕ). n * 2) (r .1) ∙ mul-assoc (r .0 * 2 + 1) (2 ^ t) 2 ∙ ap (λ (n : ℕ). (r .0 * 2 + 1) * n) (sym (pow-suc 2 t)),
-          omega (arith, r .2),
-        )
-    go (suc d) e ih = (w / 2, omega arith, omega arith)
-
 -- a word by its lowest set digit, and without it
 pub lowest-digit : (k w : ℕ) → 0 < w → w < 2 ^ k
     → (h : ℕ) × (w ≡ h * 2 ^ suc (trailingZeros k w) + 2 ^ trailingZeros k w) × (bitAnd w (w - 1) ≡ h * 2 ^ suc (trailingZeros k w)) × (trailingZeros k w < k)
 lowest-digit k w p g =
-    let r = lowest k w p g in
-    let h : ℕ = r .0 in
-    let t : ℕ = trailingZeros k w in
-    let whole : w ≡ h * 2 ^ suc t + 2 ^ t = r .1 ∙ sym (with-q h t) in
-    let less : w - 1 ≡ h * 2 ^ suc t + (2 ^ t - 1) = omega (arith, whole, pow-pos t) in
-    let rest : 2 ^ t % 2 ^ t ≡ 0 = mod-self (2 ^ t) in (
-      h,
-      whole,
-      ap₂ bitAnd whole less
-          ∙ and-block (suc t) h h (2 ^ t) (2 ^ t - 1) (pow-lt (le-refl (suc t))) (omega (arith, pow-pos t, pow-suc 2 t))
-          ∙ ap₂ (λ (x y : ℕ). x * 2 ^ suc t + y) (and-self h) (and-mask (2 ^ t) t ∙ rest)
-          ∙ add-zero (h * 2 ^ suc t),
-      r .2,
-    )
+    let r = low k w p g in
+    (r .high, sym (r .sum) ∙ ap (λ (n : ℕ). n + 2 ^ trailingZeros k w) (r .whole), r .whole, r .place)
 
 -- ---- word by word
 

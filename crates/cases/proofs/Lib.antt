@@ -1,0 +1,2 @@
+-- Laws behind the checks of `cases`.
+pub mod SeenLaws

@@ -1,0 +1,2 @@
+-- What the checks of `cases` look at.
+pub mod Seen

@@ -1,0 +1,64 @@
+-- `frame::gates::turn_z` meets its contract. Assumes nothing.
+use Rattle.frame.proofs.GateLaws.{does-turn2, does-turn4, does-turn6, does-no-turn}
+use native.Mathlib.Omega.{arith}
+use borrow.Author.Needs.{needs}
+use Rattle.frame.proofs.gates.turn_z.Statement.{statement}
+use Rattle.frame.proofs.gates.turn_z.Tie as tie
+use Rattle.frame.proofs.gates.turn_z.Reads as reads
+use Rattle.frame.proofs.gates.turn_z.Lts as lts
+use Rattle.frame.proofs.gates.gate_s.Reads as gate-s-reads
+use Rattle.frame.proofs.gates.gate_sdg.Reads as gate-sdg-reads
+use Rattle.frame.proofs.gates.gate_z.Reads as gate-z-reads
+
+gate-s-requires : tie.Need-gate-s-requires
+gate-s-requires c κs = search needs
+
+same-length : tie.Need-same-length
+same-length c = search needs
+
+returns : tie.Need-returns
+returns c =
+    let s = c .before .before .before .before .before .before in
+    does-turn2 (s .args .n) (s .args .l) (s .args .k) (s .args .q) (s .args .s .now) _ _ (c .before .before .before .before .if1 .taken) (c .before .before .gate-s .ensures)
+
+gate-z-requires : tie.Need-gate-z-requires
+gate-z-requires c κs = search needs
+
+same-length-2 : tie.Need-same-length-2
+same-length-2 c = search needs
+
+returns-2 : tie.Need-returns-2
+returns-2 c =
+    let s = c .before .before .before .before .before .before .before in
+    does-turn4 (s .args .n) (s .args .l) (s .args .k) (s .args .q) (s .args .s .now) _ _ (c .before .before .before .before .if2 .taken) (c .before .before .gate-z .ensures)
+
+gate-sdg-requires : tie.Need-gate-sdg-requires
+gate-sdg-requires c κs = search needs
+
+same-length-3 : tie.Need-same-length-3
+same-length-3 c = search needs
+
+returns-3 : tie.Need-returns-3
+returns-3 c =
+    let s = c .before .before .before .before .before .before .before .before in
+    does-turn6 (s .args .n) (s .args .l) (s .args .k) (s .args .q) (s .args .s .now) _ _ (c .before .before .before .before .if3 .taken) (c .before .before .gate-sdg .ensures)
+
+returns-4 : tie.Need-returns-4
+returns-4 c =
+    let s = c .before .before .before .before in
+    does-no-turn (s .args .n) (s .args .l) (s .args .k) (s .args .q) (s .args .s .now) (c .before .before .if1 .left) (c .before .if2 .left) (c .if3 .left)
+
+pub turn-z-spec : {M : Type 1} → statement M
+turn-z-spec =
+    tie.close
+    (tie.spec
+    gate-s-requires
+    same-length
+    returns
+    gate-z-requires
+    same-length-2
+    returns-2
+    gate-sdg-requires
+    same-length-3
+    returns-3
+    returns-4)

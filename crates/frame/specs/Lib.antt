@@ -1,0 +1,4 @@
+-- The definitions that the contracts of `frame` cite. What a frame and a gate are is `model`'s.
+pub mod Places
+pub mod Written
+pub mod Axes
