@@ -19,7 +19,7 @@ use Rattle.pauli.proofs.RowLaws.{value-part, value-xor}
 use Rattle.frame.specs.Places.{Sized, rowPlace, labelPlace, IsRow, IsLabel, rowOf, Held}
 use Rattle.frame.specs.Axes.{stride, Reaches, rowWords, either, axisOf, Both, kindOf, tagOf}
 use Rattle.frame.specs.declared.axes.Kind.{Kind}
-use Rattle.frame.specs.declared.axes.Kind.the-variants.{X, Y, Z, P}
+use Rattle.frame.specs.declared.axes.Kind.the-variants.{X, Y}
 use Rattle.frame.specs.declared.axes.Tag.{Tag}
 use Rattle.frame.proofs.RowedLaws.{at-x, at-z, row-fits, same-row}
 
@@ -248,13 +248,12 @@ module _ (n l q : ℕ) (s : List ℕ) (r : Rows Pauli) (k : Rows Label) (h : q <
   unfolding axis kindOf
   label-x t e i = one-label s (2 * n * (2 * l + 1) + 4 * q) (tagOf t) (xAt labels k q) i (x-label n l q s r k h held) ∙ sym (ap (λ (m : Kind). axis labels (kindOf m) q k) e)
 
-  pub label-z : (t : Tag) → kind ≡ Z → IsLabel s (2 * n * (2 * l + 1) + 4 * q + 2) (tagOf t) → tagOf t ≡ axis labels (kindOf kind) q k
-  unfolding axis kindOf
-  label-z t e i = one-label s (2 * n * (2 * l + 1) + 4 * q + 2) (tagOf t) (zAt labels k q) i (z-label n l q s r k h held) ∙ sym (ap (λ (m : Kind). axis labels (kindOf m) q k) e)
-
-  pub label-p : (t : Tag) → kind ≡ P → IsLabel s (2 * n * (2 * l + 1) + 4 * q + 2) (tagOf t) → tagOf t ≡ axis labels (kindOf kind) q k
-  unfolding axis kindOf
-  label-p t e i = one-label s (2 * n * (2 * l + 1) + 4 * q + 2) (tagOf t) (zAt labels k q) i (z-label n l q s r k h held) ∙ sym (ap (λ (m : Kind). axis labels (kindOf m) q k) e)
+  -- z and p alike
+  pub label-z : (m : Kind) (t : Tag) → axis labels (kindOf m) q k ≡ zAt labels k q → kind ≡ m → IsLabel s (2 * n * (2 * l + 1) + 4 * q + 2) (tagOf t)
+      → tagOf t ≡ axis labels (kindOf kind) q k
+  label-z m t f e i =
+      one-label s (2 * n * (2 * l + 1) + 4 * q + 2) (tagOf t) (zAt labels k q) i (z-label n l q s r k h held) ∙ sym f
+      ∙ sym (ap (λ (j : Kind). axis labels (kindOf j) q k) e)
 
   pub label-y : (t u : Tag) → kind ≡ Y → IsLabel s (2 * n * (2 * l + 1) + 4 * q) (tagOf t) → IsLabel s (2 * n * (2 * l + 1) + 4 * q + 2) (tagOf u)
       → tagOf (record { high = bitXor (t .high) (u .high); low = bitXor (t .low) (u .low) }) ≡ axis labels (kindOf kind) q k

@@ -11,7 +11,7 @@ use lib.Dec.{eqb}
 use lib.Seq.{getD-set-same, getD-set-other}
 use borrow.Author.Tests.{ne-eqb}
 use Rattle.model.specs.Pauli.{Pauli, times, shift}
-use Rattle.model.specs.Frame.{Ops, Rows, xAt, zAt, setX, setZ, gateH, gateS, gateZ, gateX, gateCnot, gateCz, gateSwap, X, Z, Cnot, Cz, Swap, H, S, Sdg, gate, turnZ, paulis}
+use Rattle.model.specs.Frame.{Ops, Rows, xAt, zAt, setX, setZ, gateH, gateS, gateZ, gateX, gateCnot, gateCz, gateSwap, X, Z, Cnot, Cz, Swap, H, gate, turnZ, paulis}
 use Rattle.model.specs.Sketch.{Label, labels}
 use Rattle.frame.specs.Places.{IsRow, IsLabel, rowPlace, labelPlace, Rowed, put, swapRow, turnRow, timesRow, rowOf, Held, Moves, applied, after, Does}
 use Rattle.frame.proofs.RowedLaws.{put-same, put-other, row-even, row-odd, at-x, at-z}
@@ -270,20 +270,10 @@ module _ (n l : ℕ) (s : List ℕ) (ok : Bool) (t : List ℕ) where
 
 -- ---- turns of kind z
 
-pub does-turn2 : (n l k q : ℕ) (s : List ℕ) (ok : Bool) (t : List ℕ) → k ≡ 2 → Does n l (applied (S q)) s ok t
+-- by the number that the code has found
+pub does-turn : (n l k m q : ℕ) (s : List ℕ) (ok : Bool) (t : List ℕ) → k ≡ m → Does n l (λ (A : Type 0) (o : Ops A). turnZ o m q) s ok t
     → Does n l (λ (A : Type 0) (o : Ops A). turnZ o k q) s ok t
-unfolding gate turnZ
-does-turn2 n l k q s ok t e d = subst (λ (i : ℕ). Does n l (λ (A : Type 0) (o : Ops A). turnZ o i q) s ok t) (sym e) d
-
-pub does-turn4 : (n l k q : ℕ) (s : List ℕ) (ok : Bool) (t : List ℕ) → k ≡ 4 → Does n l (applied (Z q)) s ok t
-    → Does n l (λ (A : Type 0) (o : Ops A). turnZ o k q) s ok t
-unfolding gate turnZ
-does-turn4 n l k q s ok t e d = subst (λ (i : ℕ). Does n l (λ (A : Type 0) (o : Ops A). turnZ o i q) s ok t) (sym e) d
-
-pub does-turn6 : (n l k q : ℕ) (s : List ℕ) (ok : Bool) (t : List ℕ) → k ≡ 6 → Does n l (applied (Sdg q)) s ok t
-    → Does n l (λ (A : Type 0) (o : Ops A). turnZ o k q) s ok t
-unfolding gate turnZ
-does-turn6 n l k q s ok t e d = subst (λ (i : ℕ). Does n l (λ (A : Type 0) (o : Ops A). turnZ o i q) s ok t) (sym e) d
+does-turn n l k m q s ok t e d = subst (λ (i : ℕ). Does n l (λ (A : Type 0) (o : Ops A). turnZ o i q) s ok t) (sym e) d
 
 no-turn : {A : Type 0} (o : Ops A) (k q : ℕ) (r : Rows A) → (k ≡ 2 → ⊥) → (k ≡ 4 → ⊥) → (k ≡ 6 → ⊥) → turnZ o k q r ≡ r
 unfolding turnZ

@@ -1,7 +1,10 @@
 -- `frame::axes::label` meets its contract. Assumes nothing.
+use mathlib.Core.Path.{refl}
 use Prim.Native.Nat.{_+_, _*_, _≤_}
-use Rattle.frame.specs.Axes.{stride}
-use Rattle.frame.proofs.AxisLaws.{pair-fits, label-x, label-y, label-z, label-p}
+use Rattle.model.specs.Frame.{axis}
+use Rattle.frame.specs.Axes.{stride, kindOf}
+use Rattle.frame.specs.declared.axes.Kind.the-variants.{Z, P}
+use Rattle.frame.proofs.AxisLaws.{pair-fits, label-x, label-y, label-z}
 use native.Mathlib.Omega.{arith}
 use borrow.Author.Needs.{needs}
 use Rattle.frame.proofs.axes.label.Statement.{statement}
@@ -83,16 +86,18 @@ returns-2 c = λ f k held.
     label-y (a .n) (a .l) (a .q) (a .s .now) f k (s .pre .1) held (a .kind) (x .tag-at2 .result) (z .tag-at3 .result) (x .before .enum-told2 .given .1) (x .tag-at2 .ensures) (z .tag-at3 .ensures)
 
 returns-3 : tie.Need-returns-3
+unfolding axis kindOf
 returns-3 c = λ f k held.
     let s = c .before .before .before .before in
     let a = s .args in
-    label-z (a .n) (a .l) (a .q) (a .s .now) f k (s .pre .1) held (a .kind) (c .tag-at4 .result) (c .before .enum-told3 .given .1) (c .tag-at4 .ensures)
+    label-z (a .n) (a .l) (a .q) (a .s .now) f k (s .pre .1) held (a .kind) Z (c .tag-at4 .result) refl (c .before .enum-told3 .given .1) (c .tag-at4 .ensures)
 
 returns-4 : tie.Need-returns-4
+unfolding axis kindOf
 returns-4 c = λ f k held.
     let s = c .before .before .before .before in
     let a = s .args in
-    label-p (a .n) (a .l) (a .q) (a .s .now) f k (s .pre .1) held (a .kind) (c .tag-at5 .result) (c .before .enum-told4 .given .1) (c .tag-at5 .ensures)
+    label-z (a .n) (a .l) (a .q) (a .s .now) f k (s .pre .1) held (a .kind) P (c .tag-at5 .result) refl (c .before .enum-told4 .given .1) (c .tag-at5 .ensures)
 
 pub label-spec : {M : Type 1} → statement M
 label-spec =

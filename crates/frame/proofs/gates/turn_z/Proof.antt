@@ -1,5 +1,6 @@
 -- `frame::gates::turn_z` meets its contract. Assumes nothing.
-use Rattle.frame.proofs.GateLaws.{does-turn2, does-turn4, does-turn6, does-no-turn}
+use Rattle.model.specs.Frame.{gate, turnZ}
+use Rattle.frame.proofs.GateLaws.{does-turn, does-no-turn}
 use native.Mathlib.Omega.{arith}
 use borrow.Author.Needs.{needs}
 use Rattle.frame.proofs.gates.turn_z.Statement.{statement}
@@ -17,9 +18,10 @@ same-length : tie.Need-same-length
 same-length c = search needs
 
 returns : tie.Need-returns
+unfolding gate turnZ
 returns c =
     let s = c .before .before .before .before .before .before in
-    does-turn2 (s .args .n) (s .args .l) (s .args .k) (s .args .q) (s .args .s .now) _ _ (c .before .before .before .before .if1 .taken) (c .before .before .gate-s .ensures)
+    does-turn (s .args .n) (s .args .l) (s .args .k) 2 (s .args .q) (s .args .s .now) _ _ (c .before .before .before .before .if1 .taken) (c .before .before .gate-s .ensures)
 
 gate-z-requires : tie.Need-gate-z-requires
 gate-z-requires c κs = search needs
@@ -28,9 +30,10 @@ same-length-2 : tie.Need-same-length-2
 same-length-2 c = search needs
 
 returns-2 : tie.Need-returns-2
+unfolding gate turnZ
 returns-2 c =
     let s = c .before .before .before .before .before .before .before in
-    does-turn4 (s .args .n) (s .args .l) (s .args .k) (s .args .q) (s .args .s .now) _ _ (c .before .before .before .before .if2 .taken) (c .before .before .gate-z .ensures)
+    does-turn (s .args .n) (s .args .l) (s .args .k) 4 (s .args .q) (s .args .s .now) _ _ (c .before .before .before .before .if2 .taken) (c .before .before .gate-z .ensures)
 
 gate-sdg-requires : tie.Need-gate-sdg-requires
 gate-sdg-requires c κs = search needs
@@ -39,9 +42,10 @@ same-length-3 : tie.Need-same-length-3
 same-length-3 c = search needs
 
 returns-3 : tie.Need-returns-3
+unfolding gate turnZ
 returns-3 c =
     let s = c .before .before .before .before .before .before .before .before in
-    does-turn6 (s .args .n) (s .args .l) (s .args .k) (s .args .q) (s .args .s .now) _ _ (c .before .before .before .before .if3 .taken) (c .before .before .gate-sdg .ensures)
+    does-turn (s .args .n) (s .args .l) (s .args .k) 6 (s .args .q) (s .args .s .now) _ _ (c .before .before .before .before .if3 .taken) (c .before .before .gate-sdg .ensures)
 
 returns-4 : tie.Need-returns-4
 returns-4 c =
