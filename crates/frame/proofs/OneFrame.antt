@@ -1,32 +1,17 @@
 -- What a part of the store holds determines every word of it: two parts that hold the same frame and sketch are equal. Assumes nothing.
 use mathlib.Core.Path.{_≡_, sym, ap, _∙_}
 use mathlib.Core.List.{List}
-use Prim.Native.Nat.{ℕ, zero, suc, _+_, _-_, _*_, _/_, _%_, _^_, _<_}
-use native.Mathlib.Nat.{add-zero, add-suc, suc-add, not-suc-le-zero, mod-lt, div-add-mod', div-lt-iff-lt-mul}
+use Prim.Native.Nat.{ℕ, _+_, _-_, _*_, _/_, _%_, _^_, _<_}
+use native.Mathlib.Nat.{mod-lt, div-add-mod', div-lt-iff-lt-mul}
 use native.Mathlib.Omega.{arith}
 use native.Mathlib.Decide.{ℕ-discrete, decLt}
-use lib.Arith.{digits-div, digits-mod}
 use lib.ListN.{length, getD}
 use lib.Seq.{ext-getD}
 use Rattle.model.specs.Pauli.{Pauli}
 use Rattle.model.specs.Frame.{Rows}
 use Rattle.model.specs.Sketch.{Label}
-use Rattle.pauli.specs.Rows.{valueAt}
+use Rattle.pauli.proofs.RowLaws.{value-words}
 use Rattle.frame.specs.Places.{rowPlace, labelPlace, IsRow, IsLabel, Held}
-
--- the words of a plane are the digits of its set
-value-words : (s t : List ℕ) (n a : ℕ) → ((i : ℕ) → getD s i 0 < 2 ^ 64) → ((i : ℕ) → getD t i 0 < 2 ^ 64) → valueAt s a n ≡ valueAt t a n
-    → (i : ℕ) → i < n → getD s (a + i) 0 ≡ getD t (a + i) 0
-unfolding valueAt
-value-words s t zero a fs ft e i h = absurd (not-suc-le-zero h)
-value-words s t (suc n) a fs ft e zero h =
-    ap (λ (k : ℕ). getD s k 0) (add-zero a) ∙ sym (digits-mod (valueAt s (suc a) n) (fs a)) ∙ ap (λ (v : ℕ). v % 2 ^ 64) e
-    ∙ digits-mod (valueAt t (suc a) n) (ft a) ∙ sym (ap (λ (k : ℕ). getD t k 0) (add-zero a))
-value-words s t (suc n) a fs ft e (suc i) h =
-    let k : a + suc i ≡ suc a + i = add-suc a i ∙ sym (suc-add a i) in
-    let high : valueAt s (suc a) n ≡ valueAt t (suc a) n =
-    sym (digits-div (valueAt s (suc a) n) (fs a)) ∙ ap (λ (v : ℕ). v / 2 ^ 64) e ∙ digits-div (valueAt t (suc a) n) (ft a) in
-    ap (λ (j : ℕ). getD s j 0) k ∙ value-words s t n (suc a) fs ft high i (omega arith) ∙ sym (ap (λ (j : ℕ). getD t j 0) k)
 
 module _ (s t : List ℕ) (fs : (i : ℕ) → getD s i 0 < 2 ^ 64) (ft : (i : ℕ) → getD t i 0 < 2 ^ 64) where
   -- at an index that is known by an equation
@@ -38,9 +23,9 @@ module _ (s t : List ℕ) (fs : (i : ℕ) → getD s i 0 < 2 ^ 64) (ft : (i : �
       elim (ℕ-discrete i 0) [
         | yes e ↦ same-at (a + i) a (omega arith) (u .phase ∙ sym (v .phase))
         | no e ↦ elim (decLt i (l + 1)) [
-          | yes k ↦ same-at (a + i) (a + 1 + (i - 1)) (omega arith) (value-words s t l (a + 1) fs ft (u .x ∙ sym (v .x)) (i - 1) (omega arith))
+          | yes k ↦ same-at (a + i) (a + 1 + (i - 1)) (omega arith) (value-words s t l (a + 1) (a + 1) fs ft (u .x ∙ sym (v .x)) (i - 1) (omega arith))
           | no k ↦ same-at (a + i) (a + 1 + l + (i - (1 + l))) (omega arith)
-              (value-words s t l (a + 1 + l) fs ft (u .z ∙ sym (v .z)) (i - (1 + l)) (omega arith))
+              (value-words s t l (a + 1 + l) (a + 1 + l) fs ft (u .z ∙ sym (v .z)) (i - (1 + l)) (omega arith))
         ]
       ]
 

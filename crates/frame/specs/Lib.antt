@@ -1,4 +1,4 @@
 -- The definitions that the contracts of `frame` cite. What a frame and a gate are is `model`'s.
 pub mod Places
-pub mod Written
+pub mod Begun
 pub mod Axes

@@ -2,7 +2,7 @@
 // methods). The answer is false where a move met a phase that is none; h and swap meet none.
 ghost use mathlib.Core.Path.{_≡_};
 ghost use mathlib.Core.Bool.{true};
-ghost use Prim.Native.Nat.{ℕ, _*_, _<_};
+ghost use Prim.Native.Nat.{_*_, _<_};
 ghost use Rattle.model.specs.Frame as Model;
 ghost use Rattle.model.specs.Frame.{Ops, X, Y, Z, S, Sdg, Sx, Cnot, Cz, Swap, Cy, gateS, turnZ, turn, kindX, kindY};
 ghost use Rattle.frame.specs.Places.{Sized, applied, Does};

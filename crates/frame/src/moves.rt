@@ -3,7 +3,7 @@
 // and behind them a label of two words for each. The answer is false where a phase met is none (4 or more): the words are no frame.
 ghost use mathlib.Core.Path.{_≡_};
 ghost use mathlib.Core.Bool.{true};
-ghost use Prim.Native.Nat.{ℕ, _+_, _≤_, _<_};
+ghost use Prim.Native.Nat.{_+_, _≤_, _<_};
 ghost use lib.ListN.{length};
 ghost use Rattle.model.specs.Frame.{Ops};
 ghost use Rattle.pauli.specs.Rows.{Multiplied};

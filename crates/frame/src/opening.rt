@@ -1,43 +1,20 @@
 // The fresh frames of an opening, written over any words: row x[q] is X on q, row z[q] is Z on q, phases 0 (`fresh` of `model`), and the
 // labels as they are given.
 ghost use mathlib.Core.Path.{_≡_};
-ghost use Prim.Native.Nat.{ℕ, _+_, _*_, _^_, _≤_, _<_};
-ghost use lib.ListN.{length, getD};
+ghost use Prim.Native.Nat.{_+_, _*_, _^_, _≤_, _<_};
+ghost use lib.ListN.{length};
 ghost use Rattle.model.specs.Frame.{fresh};
 ghost use Rattle.model.specs.Sketch.{labelRows};
 ghost use Rattle.frame.specs.Places.{Sized, Held};
-ghost use Rattle.frame.specs.Written.{Written, only, Begun};
-
-// The `words` words from `at` on become 0.
-fn clear(s: &mut [u64], at: usize, words: usize)
-    requires { ⌜ at + words ≤ length (now s) ⌝ }
-    ensures { λ _. ⌜ Written (now (s .entry)) at words (λ i. 0) (now (s .exit)) ⌝ }
-{
-    let mut i = 0;
-    while i < words {
-        s[at + i] = 0;
-        i += 1;
-    }
-}
-
-// The words from `at` on become those of `of`.
-fn copy(s: &mut [u64], at: usize, of: &[u64])
-    requires { ⌜ at + length (now of) ≤ length (now s) ⌝ }
-    ensures { λ _. ⌜ Written (now (s .entry)) at (length (now (of .entry))) (λ i. getD (now (of .entry)) i 0) (now (s .exit)) ⌝ }
-{
-    let mut i = 0;
-    while i < of.len() {
-        s[at + i] = of[i];
-        i += 1;
-    }
-}
+ghost use Rattle.pauli.specs.Fill.{Written};
+ghost use Rattle.frame.specs.Begun.{only, Begun};
 
 // The row at `at` becomes phase 0 and, in the 2 l words of its planes, the digit r of word j alone.
 fn single(s: &mut [u64], at: usize, l: usize, j: usize, r: usize)
     requires { ⌜ (at + (2 * l + 1) ≤ length (now s)) × (j < 2 * l) × (r < 64) ⌝ }
     ensures { λ _. ⌜ Written (now (s .entry)) at (2 * l + 1) (only (1 + j) (2 ^ r)) (now (s .exit)) ⌝ }
 {
-    clear(s, at, 2 * l + 1);
+    pauli::fill::clear(s, at, 2 * l + 1);
     s[at + (1 + j)] = 1u64 << r;
 }
 
@@ -65,5 +42,5 @@ pub fn fresh(s: &mut [u64], n: usize, l: usize, tags: &[u64])
 {
     begin(s, n, l);
     let at = s.len() - tags.len();
-    copy(s, at, tags);
+    pauli::fill::copy(s, at, tags);
 }

@@ -3,6 +3,7 @@
 pub mod Digits
 pub mod Walk
 pub mod PutWord
+pub mod FillLaws
 -- Words as sets, rows as words, signs, signatures, and two rows of one slice.
 pub mod Words
 pub mod Signs

@@ -2,16 +2,17 @@
 use mathlib.Core.Path.{_≡_, refl, sym, ap, ap₂, _∙_}
 use mathlib.Core.Logic.{_⊎_, inl, inr, ⊎-elim}
 use mathlib.Core.List.{List}
-use Prim.Native.Nat.{ℕ, zero, suc, _+_, _-_, _*_, _^_, _≤_, _<_}
-use native.Mathlib.Nat.{add-zero, add-suc, suc-add, not-suc-le-zero}
+use Prim.Native.Nat.{ℕ, zero, suc, _+_, _-_, _*_, _/_, _%_, _^_, _≤_, _<_}
+use native.Mathlib.Nat.{zero-add, add-zero, add-suc, suc-add, not-suc-le-zero}
 use native.Mathlib.Omega.{arith}
+use lib.Arith.{digits-div, digits-mod}
 use native.Mathlib.Decide.{ℕ-discrete, decLt}
 use lib.Bits.{bitAnd, bitXor, and-block, and-lt, xor-block}
-use lib.ListN.{length, getD, take, drop, set, length-set}
-use lib.Seq.{drop-cons, getD-set-same, getD-set-other}
-use Rattle.model.specs.Pauli.{count}
+use lib.ListN.{length, getD, take, drop, set, length-set, length-drop}
+use lib.Seq.{take-all, drop-cons, getD-set-same, getD-set-other}
+use Rattle.model.specs.Pauli.{Pauli, count}
 use Rattle.model.proofs.Counts.{count-cat}
-use Rattle.pauli.specs.Rows.{value, valueAt, Multiplied, Exchanged}
+use Rattle.pauli.specs.Rows.{value, valueAt, xOf, zOf, ofRow, Multiplied, Exchanged}
 
 -- ---- the number at an index
 
@@ -23,6 +24,10 @@ value-part s (suc n) a h =
     ap (λ (m : ℕ). m * 2 ^ 64 + getD s a 0) (value-part s n (suc a) (omega arith))
     ∙ ap (λ (p : List ℕ). value (take (suc n) p)) (sym (drop-cons s a 0 (omega arith)))
 
+-- and off all words from a on
+pub value-rest : (s : List ℕ) (a n : ℕ) → a + n ≡ length s → valueAt s a n ≡ value (drop a s)
+value-rest s a n e = value-part s n a (omega arith) ∙ ap value (take-all n (drop a s) (simp length-drop (omega arith)))
+
 -- it goes by the words alone
 pub value-same : (s t : List ℕ) (n a b : ℕ) → ((i : ℕ) → i < n → getD t (b + i) 0 ≡ getD s (a + i) 0) → valueAt t b n ≡ valueAt s a n
 unfolding valueAt
@@ -32,6 +37,39 @@ value-same s t (suc n) a b h =
     (value-same s t n (suc a) (suc b) (λ i g.
     ap (λ (k : ℕ). getD t k 0) (suc-add b i ∙ sym (add-suc b i)) ∙ h (suc i) (omega arith) ∙ ap (λ (k : ℕ). getD s k 0) (add-suc a i ∙ sym (suc-add a i))))
     (ap (λ (k : ℕ). getD t k 0) (sym (add-zero b)) ∙ h 0 (omega arith) ∙ ap (λ (k : ℕ). getD s k 0) (add-zero a))
+
+-- the words of a plane are the digits of its set: planes that write the same set are the same, word by word
+pub value-words : (s t : List ℕ) (n a b : ℕ) → ((i : ℕ) → getD s i 0 < 2 ^ 64) → ((i : ℕ) → getD t i 0 < 2 ^ 64) → valueAt s a n ≡ valueAt t b n
+    → (i : ℕ) → i < n → getD s (a + i) 0 ≡ getD t (b + i) 0
+unfolding valueAt
+value-words s t zero a b fs ft e i h = absurd (not-suc-le-zero h)
+value-words s t (suc n) a b fs ft e zero h =
+    ap (λ (k : ℕ). getD s k 0) (add-zero a) ∙ sym (digits-mod (valueAt s (suc a) n) (fs a)) ∙ ap (λ (v : ℕ). v % 2 ^ 64) e
+    ∙ digits-mod (valueAt t (suc b) n) (ft b) ∙ sym (ap (λ (k : ℕ). getD t k 0) (add-zero b))
+value-words s t (suc n) a b fs ft e (suc i) h =
+    let ka : a + suc i ≡ suc a + i = add-suc a i ∙ sym (suc-add a i) in
+    let kb : b + suc i ≡ suc b + i = add-suc b i ∙ sym (suc-add b i) in
+    let high : valueAt s (suc a) n ≡ valueAt t (suc b) n =
+    sym (digits-div (valueAt s (suc a) n) (fs a)) ∙ ap (λ (v : ℕ). v / 2 ^ 64) e ∙ digits-div (valueAt t (suc b) n) (ft b) in
+    ap (λ (j : ℕ). getD s j 0) ka ∙ value-words s t n (suc a) (suc b) fs ft high i (omega arith) ∙ sym (ap (λ (j : ℕ). getD t j 0) kb)
+
+-- so rows of as many words that write the same sets are the same, word by word
+pub row-words : (s t : List ℕ) → length s ≡ length t → ((i : ℕ) → getD s i 0 < 2 ^ 64) → ((i : ℕ) → getD t i 0 < 2 ^ 64) → ofRow 0 s ≡ ofRow 0 t
+    → (i : ℕ) → i < length s → getD s i 0 ≡ getD t i 0
+unfolding ofRow xOf zOf
+row-words s t long fs ft e i h =
+    let k : ℕ = length s / 2 in
+    let half : length t / 2 ≡ k = ap (λ (n : ℕ). n / 2) (sym long) in
+    let x : valueAt s 0 k ≡ valueAt t 0 k
+    = value-part s k 0 (omega arith) ∙ ap (λ (p : Pauli). p .x) e ∙ ap (λ (n : ℕ). value (take n t)) half ∙ sym (value-part t k 0 (omega arith)) in
+    let z : valueAt s k (length s - k) ≡ valueAt t k (length s - k)
+    = value-rest s k (length s - k) (omega arith) ∙ ap (λ (p : Pauli). p .z) e ∙ ap (λ (n : ℕ). value (drop n t)) half ∙ sym (value-rest t k (length s - k) (omega arith)) in
+    elim (decLt i k) [
+      | yes q ↦ ap (λ (j : ℕ). getD s j 0) (sym (zero-add i)) ∙ value-words s t k 0 0 fs ft x i q ∙ ap (λ (j : ℕ). getD t j 0) (zero-add i)
+      | no q ↦
+          let m : k + (i - k) ≡ i = omega arith in
+          ap (λ (j : ℕ). getD s j 0) (sym m) ∙ value-words s t (length s - k) k k fs ft z (i - k) (omega arith) ∙ ap (λ (j : ℕ). getD t j 0) m
+    ]
 
 -- the exclusive or of the words from a on and from b on, written from c on
 pub value-xor : (s t : List ℕ) (n a b c : ℕ) → ((k : ℕ) → getD s k 0 < 2 ^ 64) → ((i : ℕ) → i < n → getD t (c + i) 0 ≡ bitXor (getD s (a + i) 0) (getD s (b + i) 0))

@@ -112,9 +112,10 @@ pub fn anticommutes(a: &[u64], b: &[u64]) -> bool
     false
 }
 
-// Whether two axes are the same, word by word.
+// Whether two axes are the same, word by word, and so set by set.
 pub fn same(a: &[u64], b: &[u64]) -> bool
-    ensures { λ r. ⌜ Decides r (now (a .entry) ≡ now (b .entry)) ⌝ }
+    ensures words { λ r. ⌜ Decides r (now (a .entry) ≡ now (b .entry)) ⌝ }
+    ensures sets { λ r. ⌜ (length (now (a .entry)) ≡ length (now (b .entry)) → Decides r (ofRow 0 (now (a .entry)) ≡ ofRow 0 (now (b .entry)))) ⌝ }
 {
     if a.len() != b.len() {
         return false;

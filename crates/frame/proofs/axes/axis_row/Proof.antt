@@ -6,9 +6,6 @@ use native.Mathlib.Omega.{arith}
 use borrow.Author.Needs.{needs}
 use Rattle.frame.proofs.axes.axis_row.Statement.{statement}
 use Rattle.frame.proofs.axes.axis_row.Tie as tie
-use Rattle.frame.proofs.axes.axis_row.Reads as reads
-use Rattle.frame.proofs.axes.axis_row.Lts as lts
-use Rattle.frame.proofs.axes.row_of.Reads as row-of-reads
 
 -- where the qubit's rows end
 fits : (c : tie.Start) → 2 * c .args .l + 1 + stride (c .args .l) (c .args .q) + (2 * c .args .l + 1) ≤ 2 * c .args .n * (2 * c .args .l + 1)

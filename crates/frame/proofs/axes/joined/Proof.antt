@@ -14,8 +14,6 @@ use borrow.Author.Needs.{needs}
 use native.Mathlib.Omega.{arith}
 use Rattle.frame.proofs.axes.joined.Statement.{statement}
 use Rattle.frame.proofs.axes.joined.Tie as tie
-use Rattle.frame.proofs.axes.joined.Reads as reads
-use Rattle.frame.proofs.axes.joined.Lts as lts
 
 abbrev Inv-loop : tie.InvT-loop
 Inv-loop s at by l out₀ acc₀ i₀ out acc i =

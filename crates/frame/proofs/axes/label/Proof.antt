@@ -9,9 +9,6 @@ use native.Mathlib.Omega.{arith}
 use borrow.Author.Needs.{needs}
 use Rattle.frame.proofs.axes.label.Statement.{statement}
 use Rattle.frame.proofs.axes.label.Tie as tie
-use Rattle.frame.proofs.axes.label.Reads as reads
-use Rattle.frame.proofs.axes.label.Lts as lts
-use Rattle.frame.proofs.axes.tag_at.Reads as tag-at-reads
 
 -- where the qubit's rows end
 fits : (c : tie.Start) → 2 * c .args .l + 1 + stride (c .args .l) (c .args .q) + (2 * c .args .l + 1) ≤ 2 * c .args .n * (2 * c .args .l + 1)

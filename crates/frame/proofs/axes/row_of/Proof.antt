@@ -3,8 +3,6 @@ use Rattle.frame.proofs.AxisLaws.{first-words, second-words}
 use borrow.Author.Needs.{needs}
 use Rattle.frame.proofs.axes.row_of.Statement.{statement}
 use Rattle.frame.proofs.axes.row_of.Tie as tie
-use Rattle.frame.proofs.axes.row_of.Reads as reads
-use Rattle.frame.proofs.axes.row_of.Lts as lts
 
 mul-w : tie.Need-mul-w
 mul-w c = search needs

@@ -7,9 +7,6 @@ use native.Mathlib.Omega.{arith}
 use borrow.Author.Needs.{needs}
 use Rattle.frame.proofs.axes.row_sign.Statement.{statement}
 use Rattle.frame.proofs.axes.row_sign.Tie as tie
-use Rattle.frame.proofs.axes.row_sign.Reads as reads
-use Rattle.frame.proofs.axes.row_sign.Lts as lts
-use Rattle.pauli.proofs.rows.sign.Reads as sign-reads
 
 shared-slice-read-phase : tie.Need-shared-slice-read-phase
 shared-slice-read-phase c = search needs

@@ -3,8 +3,6 @@ use Rattle.frame.proofs.AxisLaws.{read-label}
 use borrow.Author.Needs.{needs}
 use Rattle.frame.proofs.axes.tag_at.Statement.{statement}
 use Rattle.frame.proofs.axes.tag_at.Tie as tie
-use Rattle.frame.proofs.axes.tag_at.Reads as reads
-use Rattle.frame.proofs.axes.tag_at.Lts as lts
 
 mul-t3 : tie.Need-mul-t3
 mul-t3 c = search needs

@@ -8,9 +8,6 @@ use native.Mathlib.Omega.{arith}
 use borrow.Author.Needs.{needs}
 use Rattle.frame.proofs.axes.y_product.Statement.{statement}
 use Rattle.frame.proofs.axes.y_product.Tie as tie
-use Rattle.frame.proofs.axes.y_product.Reads as reads
-use Rattle.frame.proofs.axes.y_product.Lts as lts
-use Rattle.frame.proofs.axes.joined.Reads as joined-reads
 
 -- where the qubit's rows end
 fits : (c : tie.Start) → 2 * c .args .l + 1 + stride (c .args .l) (c .args .q) + (2 * c .args .l + 1) ≤ 2 * c .args .n * (2 * c .args .l + 1)

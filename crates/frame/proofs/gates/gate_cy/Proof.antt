@@ -1,16 +1,10 @@
 -- `frame::gates::gate_cy` meets its contract. Assumes nothing.
-use Rattle.model.specs.Frame.{Ops, Rows, Cnot, S, Sdg, gate}
+use Rattle.model.specs.Frame.{Cnot, S, Sdg, gate}
 use Rattle.frame.specs.Places.{applied, after}
 use Rattle.frame.proofs.GateLaws.{does-then, does-no}
-use native.Mathlib.Omega.{arith}
 use borrow.Author.Needs.{needs}
 use Rattle.frame.proofs.gates.gate_cy.Statement.{statement}
 use Rattle.frame.proofs.gates.gate_cy.Tie as tie
-use Rattle.frame.proofs.gates.gate_cy.Reads as reads
-use Rattle.frame.proofs.gates.gate_cy.Lts as lts
-use Rattle.frame.proofs.gates.gate_cnot.Reads as gate-cnot-reads
-use Rattle.frame.proofs.gates.gate_s.Reads as gate-s-reads
-use Rattle.frame.proofs.gates.gate_sdg.Reads as gate-sdg-reads
 
 gate-sdg-requires : tie.Need-gate-sdg-requires
 gate-sdg-requires c κs = search needs

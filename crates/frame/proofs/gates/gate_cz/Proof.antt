@@ -1,15 +1,11 @@
 -- `frame::gates::gate_cz` meets its contract. Assumes nothing.
-use Prim.Native.Nat.{ℕ, _+_, _*_}
+use Prim.Native.Nat.{_+_, _*_}
 use Rattle.model.specs.Frame.{Ops}
 use Rattle.frame.specs.Places.{timesRow}
 use Rattle.frame.proofs.GateLaws.{does-cz, moves-then, moves-no}
-use native.Mathlib.Omega.{arith}
 use borrow.Author.Needs.{needs}
 use Rattle.frame.proofs.gates.gate_cz.Statement.{statement}
 use Rattle.frame.proofs.gates.gate_cz.Tie as tie
-use Rattle.frame.proofs.gates.gate_cz.Reads as reads
-use Rattle.frame.proofs.gates.gate_cz.Lts as lts
-use Rattle.frame.proofs.moves.times.Reads as times-reads
 
 mul-times : tie.Need-mul-times
 mul-times c = search needs

@@ -1,12 +1,8 @@
 -- `frame::gates::gate_h` meets its contract. Assumes nothing.
 use Rattle.frame.proofs.GateLaws.{does-h}
-use native.Mathlib.Omega.{arith}
 use borrow.Author.Needs.{needs}
 use Rattle.frame.proofs.gates.gate_h.Statement.{statement}
 use Rattle.frame.proofs.gates.gate_h.Tie as tie
-use Rattle.frame.proofs.gates.gate_h.Reads as reads
-use Rattle.frame.proofs.gates.gate_h.Lts as lts
-use Rattle.frame.proofs.moves.swap.Reads as swap-reads
 
 mul-swap : tie.Need-mul-swap
 mul-swap c = search needs

@@ -1,12 +1,8 @@
 -- `frame::gates::gate_sdg` meets its contract. Assumes nothing.
 use Rattle.model.specs.Frame.{gate}
-use native.Mathlib.Omega.{arith}
 use borrow.Author.Needs.{needs}
 use Rattle.frame.proofs.gates.gate_sdg.Statement.{statement}
 use Rattle.frame.proofs.gates.gate_sdg.Tie as tie
-use Rattle.frame.proofs.gates.gate_sdg.Reads as reads
-use Rattle.frame.proofs.gates.gate_sdg.Lts as lts
-use Rattle.frame.proofs.gates.quarter.Reads as quarter-reads
 
 quarter-requires : tie.Need-quarter-requires
 quarter-requires c κs = search needs

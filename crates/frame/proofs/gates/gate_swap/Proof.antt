@@ -1,15 +1,11 @@
 -- `frame::gates::gate_swap` meets its contract. Assumes nothing.
-use Prim.Native.Nat.{ℕ, _+_, _*_}
+use Prim.Native.Nat.{_+_, _*_}
 use Rattle.model.specs.Frame.{Ops}
 use Rattle.frame.specs.Places.{swapRow}
 use Rattle.frame.proofs.GateLaws.{does-swap, moves-then}
-use native.Mathlib.Omega.{arith}
 use borrow.Author.Needs.{needs}
 use Rattle.frame.proofs.gates.gate_swap.Statement.{statement}
 use Rattle.frame.proofs.gates.gate_swap.Tie as tie
-use Rattle.frame.proofs.gates.gate_swap.Reads as reads
-use Rattle.frame.proofs.gates.gate_swap.Lts as lts
-use Rattle.frame.proofs.moves.swap.Reads as swap-reads
 
 mul-swap : tie.Need-mul-swap
 mul-swap c = search needs

@@ -1,15 +1,10 @@
 -- `frame::gates::gate_sx` meets its contract. Assumes nothing.
-use Rattle.model.specs.Frame.{Ops, Rows, H, S, gate}
+use Rattle.model.specs.Frame.{H, S, gate}
 use Rattle.frame.specs.Places.{applied, after}
 use Rattle.frame.proofs.GateLaws.{does-then, does-after}
-use native.Mathlib.Omega.{arith}
 use borrow.Author.Needs.{needs}
 use Rattle.frame.proofs.gates.gate_sx.Statement.{statement}
 use Rattle.frame.proofs.gates.gate_sx.Tie as tie
-use Rattle.frame.proofs.gates.gate_sx.Reads as reads
-use Rattle.frame.proofs.gates.gate_sx.Lts as lts
-use Rattle.frame.proofs.gates.gate_h.Reads as gate-h-reads
-use Rattle.frame.proofs.gates.gate_s.Reads as gate-s-reads
 
 gate-h-requires : tie.Need-gate-h-requires
 gate-h-requires c κs = search needs

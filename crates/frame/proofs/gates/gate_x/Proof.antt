@@ -1,12 +1,8 @@
 -- `frame::gates::gate_x` meets its contract. Assumes nothing.
 use Rattle.frame.proofs.GateLaws.{does-x}
-use native.Mathlib.Omega.{arith}
 use borrow.Author.Needs.{needs}
 use Rattle.frame.proofs.gates.gate_x.Statement.{statement}
 use Rattle.frame.proofs.gates.gate_x.Tie as tie
-use Rattle.frame.proofs.gates.gate_x.Reads as reads
-use Rattle.frame.proofs.gates.gate_x.Lts as lts
-use Rattle.frame.proofs.moves.turn.Reads as turn-reads
 
 mul-turn : tie.Need-mul-turn
 mul-turn c = search needs

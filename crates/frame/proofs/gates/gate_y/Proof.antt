@@ -1,15 +1,10 @@
 -- `frame::gates::gate_y` meets its contract. Assumes nothing.
-use Rattle.model.specs.Frame.{Ops, X, Z, gate}
+use Rattle.model.specs.Frame.{X, Z, gate}
 use Rattle.frame.specs.Places.{applied}
 use Rattle.frame.proofs.GateLaws.{does-then, does-no}
-use native.Mathlib.Omega.{arith}
 use borrow.Author.Needs.{needs}
 use Rattle.frame.proofs.gates.gate_y.Statement.{statement}
 use Rattle.frame.proofs.gates.gate_y.Tie as tie
-use Rattle.frame.proofs.gates.gate_y.Reads as reads
-use Rattle.frame.proofs.gates.gate_y.Lts as lts
-use Rattle.frame.proofs.gates.gate_x.Reads as gate-x-reads
-use Rattle.frame.proofs.gates.gate_z.Reads as gate-z-reads
 
 gate-x-requires : tie.Need-gate-x-requires
 gate-x-requires c κs = search needs

@@ -1,12 +1,8 @@
 -- `frame::gates::quarter` meets its contract. Assumes nothing.
 use Rattle.frame.proofs.GateLaws.{does-quarter}
-use native.Mathlib.Omega.{arith}
 use borrow.Author.Needs.{needs}
 use Rattle.frame.proofs.gates.quarter.Statement.{statement}
 use Rattle.frame.proofs.gates.quarter.Tie as tie
-use Rattle.frame.proofs.gates.quarter.Reads as reads
-use Rattle.frame.proofs.gates.quarter.Lts as lts
-use Rattle.frame.proofs.moves.times.Reads as times-reads
 
 mul-times : tie.Need-mul-times
 mul-times c = search needs

@@ -1,15 +1,10 @@
 -- `frame::gates::turn_x` meets its contract. Assumes nothing.
-use Rattle.model.specs.Frame.{Ops, Rows, H, gate, turnZ, turn}
+use Rattle.model.specs.Frame.{Ops, H, gate, turnZ, turn}
 use Rattle.frame.specs.Places.{applied, after}
 use Rattle.frame.proofs.GateLaws.{does-then, does-after}
-use native.Mathlib.Omega.{arith}
 use borrow.Author.Needs.{needs}
 use Rattle.frame.proofs.gates.turn_x.Statement.{statement}
 use Rattle.frame.proofs.gates.turn_x.Tie as tie
-use Rattle.frame.proofs.gates.turn_x.Reads as reads
-use Rattle.frame.proofs.gates.turn_x.Lts as lts
-use Rattle.frame.proofs.gates.gate_h.Reads as gate-h-reads
-use Rattle.frame.proofs.gates.turn_z.Reads as turn-z-reads
 
 gate-h-requires : tie.Need-gate-h-requires
 gate-h-requires c κs = search needs

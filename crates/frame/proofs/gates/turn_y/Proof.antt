@@ -2,14 +2,9 @@
 use Rattle.model.specs.Frame.{Ops, kindX, turnZ, turn}
 use Rattle.frame.specs.Places.{after}
 use Rattle.frame.proofs.GateLaws.{does-then, does-no}
-use native.Mathlib.Omega.{arith}
 use borrow.Author.Needs.{needs}
 use Rattle.frame.proofs.gates.turn_y.Statement.{statement}
 use Rattle.frame.proofs.gates.turn_y.Tie as tie
-use Rattle.frame.proofs.gates.turn_y.Reads as reads
-use Rattle.frame.proofs.gates.turn_y.Lts as lts
-use Rattle.frame.proofs.gates.turn_x.Reads as turn-x-reads
-use Rattle.frame.proofs.gates.turn_z.Reads as turn-z-reads
 
 turn-z-requires : tie.Need-turn-z-requires
 turn-z-requires c κs = search needs

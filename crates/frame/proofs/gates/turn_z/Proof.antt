@@ -1,15 +1,9 @@
 -- `frame::gates::turn_z` meets its contract. Assumes nothing.
 use Rattle.model.specs.Frame.{gate, turnZ}
 use Rattle.frame.proofs.GateLaws.{does-turn, does-no-turn}
-use native.Mathlib.Omega.{arith}
 use borrow.Author.Needs.{needs}
 use Rattle.frame.proofs.gates.turn_z.Statement.{statement}
 use Rattle.frame.proofs.gates.turn_z.Tie as tie
-use Rattle.frame.proofs.gates.turn_z.Reads as reads
-use Rattle.frame.proofs.gates.turn_z.Lts as lts
-use Rattle.frame.proofs.gates.gate_s.Reads as gate-s-reads
-use Rattle.frame.proofs.gates.gate_sdg.Reads as gate-sdg-reads
-use Rattle.frame.proofs.gates.gate_z.Reads as gate-z-reads
 
 gate-s-requires : tie.Need-gate-s-requires
 gate-s-requires c κs = search needs

@@ -5,8 +5,6 @@ use native.Mathlib.Omega.{arith}
 use borrow.Author.Needs.{needs}
 use Rattle.frame.proofs.moves.mix.Statement.{statement}
 use Rattle.frame.proofs.moves.mix.Tie as tie
-use Rattle.frame.proofs.moves.mix.Reads as reads
-use Rattle.frame.proofs.moves.mix.Lts as lts
 
 mul-s : tie.Need-mul-s
 mul-s c = search needs

@@ -1,16 +1,12 @@
 -- `frame::moves::swap` meets its contract. Assumes nothing.
-use mathlib.Core.Path.{_≡_, refl, sym, _∙_}
-use Prim.Native.Nat.{ℕ, _+_, _*_, _≤_}
-use lib.ListN.{length, length-set}
+use mathlib.Core.Path.{refl}
+use Prim.Native.Nat.{_+_, _*_, _≤_}
 use Rattle.frame.specs.Places.{rowPlace}
 use Rattle.frame.proofs.RowedLaws.{row-fits, rows-apart, labels-apart, swapped-rowed}
 use native.Mathlib.Omega.{arith}
 use borrow.Author.Needs.{needs}
 use Rattle.frame.proofs.moves.swap.Statement.{statement}
 use Rattle.frame.proofs.moves.swap.Tie as tie
-use Rattle.frame.proofs.moves.swap.Reads as reads
-use Rattle.frame.proofs.moves.swap.Lts as lts
-use Rattle.pauli.proofs.rows.exchange.Reads as exchange-reads
 
 -- where the rows end
 g-fits : (c : tie.Start) → rowPlace (c .args .l) (c .args .g) + (2 * c .args .l + 1) ≤ c .args .m * (2 * c .args .l + 1)

@@ -1,18 +1,14 @@
 -- `frame::moves::times` meets its contract. Assumes nothing.
-use mathlib.Core.Path.{_≡_, refl, _∙_}
+use mathlib.Core.Path.{refl, _∙_}
 use mathlib.Core.Logic.{inl, inr, ⊎-elim}
-use Prim.Native.Nat.{ℕ, _+_, _*_, _≤_}
-use lib.ListN.{length, length-set}
+use Prim.Native.Nat.{_+_, _*_, _≤_}
+use lib.ListN.{length-set}
 use Rattle.frame.specs.Places.{rowPlace}
 use Rattle.frame.proofs.RowedLaws.{row-fits, rows-apart, times-rowed}
 use native.Mathlib.Omega.{arith}
 use borrow.Author.Needs.{needs}
 use Rattle.frame.proofs.moves.times.Statement.{statement}
 use Rattle.frame.proofs.moves.times.Tie as tie
-use Rattle.frame.proofs.moves.times.Reads as reads
-use Rattle.frame.proofs.moves.times.Lts as lts
-use Rattle.frame.proofs.moves.mix.Reads as mix-reads
-use Rattle.pauli.proofs.rows.multiply.Reads as multiply-reads
 
 -- where the rows end
 g-fits : (c : tie.Start) → rowPlace (c .args .l) (c .args .g) + (2 * c .args .l + 1) ≤ c .args .m * (2 * c .args .l + 1)

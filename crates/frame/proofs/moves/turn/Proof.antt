@@ -1,14 +1,12 @@
 -- `frame::moves::turn` meets its contract. Assumes nothing.
-use mathlib.Core.Path.{_≡_, refl}
-use Prim.Native.Nat.{ℕ, _+_, _*_, _≤_}
+use mathlib.Core.Path.{refl}
+use Prim.Native.Nat.{_+_, _*_, _≤_}
 use Rattle.frame.specs.Places.{rowPlace}
 use Rattle.frame.proofs.RowedLaws.{row-fits, turned-rowed}
 use native.Mathlib.Omega.{arith}
 use borrow.Author.Needs.{needs}
 use Rattle.frame.proofs.moves.turn.Statement.{statement}
 use Rattle.frame.proofs.moves.turn.Tie as tie
-use Rattle.frame.proofs.moves.turn.Reads as reads
-use Rattle.frame.proofs.moves.turn.Lts as lts
 
 -- where the row ends
 g-fits : (c : tie.Start) → rowPlace (c .args .l) (c .args .g) + (2 * c .args .l + 1) ≤ c .args .m * (2 * c .args .l + 1)

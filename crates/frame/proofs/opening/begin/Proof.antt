@@ -1,6 +1,6 @@
 -- `frame::opening::begin` meets its contract: the rows of the qubits before `q` are fresh. Assumes nothing.
 use Rattle.frame.proofs.FreshLaws.{x-fits, z-fits, begun-none, begun-more}
-use Rattle.frame.specs.Written.{Begun}
+use Rattle.frame.specs.Begun.{Begun}
 use Rattle.frame.specs.Places.{rowPlace}
 use lib.ListN.{length}
 use Prim.Native.Nat.{ℕ, _+_, _*_, _≤_, _-_}
@@ -9,9 +9,6 @@ use borrow.Author.Needs.{needs}
 use native.Mathlib.Omega.{arith}
 use Rattle.frame.proofs.opening.begin.Statement.{statement}
 use Rattle.frame.proofs.opening.begin.Tie as tie
-use Rattle.frame.proofs.opening.begin.Reads as reads
-use Rattle.frame.proofs.opening.begin.Lts as lts
-use Rattle.frame.proofs.opening.single.Reads as single-reads
 
 abbrev Inv-loop : tie.InvT-loop
 Inv-loop s₀ n l q₀ s q = (q ≤ n) × (length s ≡ length s₀) × Begun q l s

@@ -5,10 +5,6 @@ use native.Mathlib.Omega.{arith}
 use borrow.Author.Needs.{needs}
 use Rattle.frame.proofs.opening.fresh.Statement.{statement}
 use Rattle.frame.proofs.opening.fresh.Tie as tie
-use Rattle.frame.proofs.opening.fresh.Reads as reads
-use Rattle.frame.proofs.opening.fresh.Lts as lts
-use Rattle.frame.proofs.opening.begin.Reads as begin-reads
-use Rattle.frame.proofs.opening.copy.Reads as copy-reads
 
 begin-requires : tie.Need-begin-requires
 begin-requires c κs = search needs

@@ -6,9 +6,6 @@ use native.Mathlib.Omega.{arith}
 use borrow.Author.Needs.{needs}
 use Rattle.frame.proofs.opening.single.Statement.{statement}
 use Rattle.frame.proofs.opening.single.Tie as tie
-use Rattle.frame.proofs.opening.single.Reads as reads
-use Rattle.frame.proofs.opening.single.Lts as lts
-use Rattle.frame.proofs.opening.clear.Reads as clear-reads
 
 mul-clear : tie.Need-mul-clear
 mul-clear c = search needs

@@ -1,18 +1,13 @@
 -- `pauli::rows::anticommutes` meets its contract. Assumes nothing.
-use mathlib.Core.Path.{_≡_, refl, sym, ap, _∙_}
-use Prim.Native.Nat.{_≤_, _/_, _+_, _%_}
+use mathlib.Core.Path.{refl, sym}
+use Prim.Native.Nat.{_/_}
 use lib.ListN.{length}
-use Rattle.model.specs.Pauli.{anti}
-use Rattle.pauli.specs.Rows.{ofRow}
 use Rattle.pauli.proofs.Words.{front-length, rest-length}
 use Rattle.pauli.proofs.Signs.{crossed}
 use native.Mathlib.Omega.{arith}
 use borrow.Author.Needs.{needs}
 use Rattle.pauli.proofs.rows.anticommutes.Statement.{statement}
 use Rattle.pauli.proofs.rows.anticommutes.Tie as tie
-use Rattle.pauli.proofs.rows.anticommutes.Reads as reads
-use Rattle.pauli.proofs.rows.anticommutes.Lts as lts
-use Rattle.pauli.proofs.rows.crossed_twice.Reads as crossed-twice-reads
 
 slice-aggregate-crossed-twice : tie.Need-slice-aggregate-crossed-twice
 slice-aggregate-crossed-twice c =

@@ -1,6 +1,6 @@
 -- `pauli::rows::crossed_twice` meets its contract: what is folded so far has the parity of the words passed. Assumes nothing.
-use mathlib.Core.Path.{_≡_, sym, ap, _∙_}
-use Prim.Native.Nat.{_≤_, _<_, _+_, _-_, _%_, _^_}
+use mathlib.Core.Path.{_≡_}
+use Prim.Native.Nat.{_≤_, _+_, _-_, _%_}
 use native.Mathlib.Omega.{arith}
 use borrow.Author.Needs.{needs}
 use lib.ListN.{length, getD}
@@ -12,8 +12,6 @@ use Rattle.model.proofs.Digits.{count-xor}
 use Rattle.pauli.proofs.Words.{common, common-start, common-step, common-end}
 use Rattle.pauli.proofs.rows.crossed_twice.Statement.{statement}
 use Rattle.pauli.proofs.rows.crossed_twice.Tie as tie
-use Rattle.pauli.proofs.rows.crossed_twice.Reads as reads
-use Rattle.pauli.proofs.rows.crossed_twice.Lts as lts
 
 abbrev Inv-loop : tie.InvT-loop
 Inv-loop x z v w acc₀ i₀ acc i =

@@ -1,10 +1,10 @@
 -- `pauli::rows::crossings` meets its contract: what is folded so far has the parity of the words passed. Assumes nothing.
-use mathlib.Core.Path.{_≡_, sym, ap, _∙_}
-use Prim.Native.Nat.{_≤_, _<_, _+_, _-_, _%_, _^_}
+use mathlib.Core.Path.{_≡_}
+use Prim.Native.Nat.{_≤_, _+_, _-_, _%_}
 use native.Mathlib.Omega.{arith}
 use borrow.Author.Needs.{needs}
 use lib.ListN.{length, getD}
-use lib.Bits.{bitAnd, bitXor}
+use lib.Bits.{bitAnd}
 use Rattle.model.specs.Pauli.{count}
 use Rattle.pauli.specs.Rows.{value}
 use Rattle.model.proofs.Counts.{count-zero, count-ones}
@@ -12,8 +12,6 @@ use Rattle.model.proofs.Digits.{count-xor}
 use Rattle.pauli.proofs.Words.{common, common-start, common-step, common-end}
 use Rattle.pauli.proofs.rows.crossings.Statement.{statement}
 use Rattle.pauli.proofs.rows.crossings.Tie as tie
-use Rattle.pauli.proofs.rows.crossings.Reads as reads
-use Rattle.pauli.proofs.rows.crossings.Lts as lts
 
 abbrev Inv-loop : tie.InvT-loop
 Inv-loop a b acc₀ i₀ acc i = (i ≤ length a) × ((count acc + common a b i) % 2 ≡ count (bitAnd (value a) (value b)) % 2)

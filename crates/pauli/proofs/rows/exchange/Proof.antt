@@ -1,16 +1,13 @@
 -- `pauli::rows::exchange` meets its contract: the words before `i` are done. Assumes nothing.
-use mathlib.Core.Path.{_≡_, sym, ap, _∙_, subst}
-use Prim.Native.Nat.{ℕ, _≤_, _<_, _+_, _-_}
-use lib.ListN.{length, getD, length-set}
-use mathlib.Core.List.{List}
+use mathlib.Core.Path.{_≡_, subst}
+use Prim.Native.Nat.{ℕ, _≤_, _-_}
+use lib.ListN.{length-set}
 use Rattle.pauli.specs.Rows.{Exchanged}
 use Rattle.pauli.proofs.RowLaws.{exchanged-none, exchanged-more}
 use native.Mathlib.Omega.{arith}
 use borrow.Author.Needs.{needs}
 use Rattle.pauli.proofs.rows.exchange.Statement.{statement}
 use Rattle.pauli.proofs.rows.exchange.Tie as tie
-use Rattle.pauli.proofs.rows.exchange.Reads as reads
-use Rattle.pauli.proofs.rows.exchange.Lts as lts
 
 abbrev Inv-loop : tie.InvT-loop
 Inv-loop frame₀ at by words i₀ frame i = (i ≤ words) × Exchanged frame₀ at by i frame

@@ -1,7 +1,7 @@
 -- `pauli::rows::marked` meets its contract: what is found so far, with what is left of the word, is the whole. The measure is what is left.
 -- Assumes nothing.
 use mathlib.Core.Path.{_≡_, refl, sym, ap, _∙_}
-use Prim.Native.Nat.{ℕ, suc, _≤_, _<_, _+_, _*_, _-_, _/_, _%_, _^_}
+use Prim.Native.Nat.{ℕ, suc, _<_, _+_, _*_, _-_, _/_, _^_}
 use native.Mathlib.Nat.{one-mul, div-lt-iff-lt-mul}
 use native.Mathlib.Omega.{arith}
 use lib.Bits.{bitAnd, bitOr, and-le-l}
@@ -13,8 +13,6 @@ use Rattle.pauli.specs.Rows.{blocks, left}
 use Rattle.pauli.proofs.Signatures.{lowest-digit, blocks-step}
 use Rattle.pauli.proofs.rows.marked.Statement.{statement}
 use Rattle.pauli.proofs.rows.marked.Tie as tie
-use Rattle.pauli.proofs.rows.marked.Reads as reads
-use Rattle.pauli.proofs.rows.marked.Lts as lts
 
 abbrev Inv-loop : tie.InvT-loop
 Inv-loop sig w j l sum₀ v₀ sum v = (v < 2 ^ 64) × ((u : ℕ) → bitOr sum (blocks l (left u j v) 64) ≡ bitOr sig (blocks l (left u j w) 64))

@@ -1,23 +1,20 @@
 -- `pauli::rows::multiply` meets its contract: both planes are done up to i, and what is folded so far has the parity of the crossings passed.
 -- Assumes nothing.
-use mathlib.Core.Path.{_≡_, refl, sym, ap, ap₂, _∙_, subst}
-use mathlib.Core.List.{List}
-use Prim.Native.Nat.{ℕ, suc, _≤_, _<_, _+_, _*_, _-_, _%_, _^_}
+use mathlib.Core.Path.{_≡_, ap, ap₂, _∙_, subst}
+use Prim.Native.Nat.{ℕ, _≤_, _<_, _+_, _-_, _%_, _^_}
 use native.Mathlib.Omega.{arith}
 use lib.Bits.{bitAnd, bitXor}
-use lib.ListN.{length, getD, length-set}
+use lib.ListN.{getD, length-set}
 use lib.Seq.{getD-set-other}
 use mathlib.Core.Logic.{⊎-elim}
 use borrow.Author.Needs.{needs}
 use Rattle.model.specs.Pauli.{count}
 use Rattle.model.proofs.Counts.{count-zero, count-ones}
 use Rattle.model.proofs.Digits.{count-xor}
-use Rattle.pauli.specs.Rows.{valueAt, Multiplied}
+use Rattle.pauli.specs.Rows.{valueAt}
 use Rattle.pauli.proofs.RowLaws.{cross-turn, Halfway, halfway-none, halfway-more, halfway-all, x-at, x-by, z-by, z-at}
 use Rattle.pauli.proofs.rows.multiply.Statement.{statement}
 use Rattle.pauli.proofs.rows.multiply.Tie as tie
-use Rattle.pauli.proofs.rows.multiply.Reads as reads
-use Rattle.pauli.proofs.rows.multiply.Lts as lts
 
 abbrev Inv-loop : tie.InvT-loop
 Inv-loop frame₀ at by l acc₀ i₀ frame acc i =

@@ -1,17 +1,14 @@
 -- `pauli::rows::opposite` meets its contract, by cases on the sign. Assumes nothing.
 use mathlib.Core.Path.{_≡_, refl}
-use mathlib.Core.Logic.{_⊎_, inl, inr}
-use lib.IntN.{ℤ, pos, negsuc, _-ℤ_, negℤ}
+use mathlib.Core.Logic.{inl, inr}
+use lib.IntN.{ℤ, pos, _-ℤ_, negℤ}
 use mir.Val.{SFits}
 use mir.Syntax.{w8}
 use Rattle.model.specs.Demands.{IsSign}
 use Rattle.pauli.proofs.Signs.{sign-cases, bits8}
-use native.Mathlib.Omega.{arith}
 use borrow.Author.Needs.{needs}
 use Rattle.pauli.proofs.rows.opposite.Statement.{statement}
 use Rattle.pauli.proofs.rows.opposite.Tie as tie
-use Rattle.pauli.proofs.rows.opposite.Reads as reads
-use Rattle.pauli.proofs.rows.opposite.Lts as lts
 
 sub-result : tie.Need-sub-result
 sub-result c = sign-cases (λ (a : ℤ). SFits w8 (pos 0 -ℤ bits8 a)) (search needs) (search needs) (c .args .a) (c .pre)

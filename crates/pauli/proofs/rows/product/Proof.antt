@@ -1,17 +1,14 @@
 -- `pauli::rows::product` meets its contract, by cases on the signs. Assumes nothing.
 use mathlib.Core.Path.{_≡_, refl}
-use mathlib.Core.Logic.{_⊎_, inl, inr}
+use mathlib.Core.Logic.{inl, inr}
 use lib.IntN.{ℤ, pos, negsuc, _*ℤ_}
 use mir.Val.{SFits}
 use mir.Syntax.{w8}
 use Rattle.model.specs.Demands.{IsSign}
 use Rattle.pauli.proofs.Signs.{sign-cases, bits8}
-use native.Mathlib.Omega.{arith}
 use borrow.Author.Needs.{needs}
 use Rattle.pauli.proofs.rows.product.Statement.{statement}
 use Rattle.pauli.proofs.rows.product.Tie as tie
-use Rattle.pauli.proofs.rows.product.Reads as reads
-use Rattle.pauli.proofs.rows.product.Lts as lts
 
 fits : (a : ℤ) → IsSign a → (b : ℤ) → IsSign b → SFits w8 (bits8 a *ℤ bits8 b)
 fits =

@@ -1,16 +1,16 @@
 -- `pauli::rows::same` meets its contract: every word passed is the same in both. Assumes nothing.
-use mathlib.Core.Path.{_≡_, sym, ap, _∙_}
-use Prim.Native.Nat.{ℕ, _≤_, _<_, _+_, _-_}
+use mathlib.Core.Path.{_≡_, ap}
+use Prim.Native.Nat.{ℕ, _≤_, _<_, _-_}
 use lib.ListN.{length, getD}
 use lib.Seq.{ext-getD}
 use borrow.Author.Count.{below-more}
 use mathlib.Core.List.{List}
 use native.Mathlib.Omega.{arith}
+use Rattle.pauli.specs.Rows.{ofRow}
+use Rattle.pauli.proofs.RowLaws.{row-words}
 use borrow.Author.Needs.{needs}
 use Rattle.pauli.proofs.rows.same.Statement.{statement}
 use Rattle.pauli.proofs.rows.same.Tie as tie
-use Rattle.pauli.proofs.rows.same.Reads as reads
-use Rattle.pauli.proofs.rows.same.Lts as lts
 
 abbrev Inv-loop : tie.InvT-loop
 Inv-loop a b i₀ i = (i ≤ length a) × ((k : ℕ) → k < i → getD a k 0 ≡ getD b k 0)
@@ -19,7 +19,7 @@ abbrev μ-loop : tie.MeasureT-loop
 μ-loop a b i₀ i = length a - i
 
 returns : tie.Need-returns Inv-loop μ-loop
-returns c = λ e. c .if1 .taken (ap length e)
+returns c = (λ e. c .if1 .taken (ap length e), λ e. absurd (c .if1 .taken e))
 
 loop-holds : tie.Need-loop-holds Inv-loop μ-loop
 loop-holds c = search needs
@@ -37,7 +37,11 @@ shared-slice-read-if2-2 : tie.Need-shared-slice-read-if2-2 Inv-loop μ-loop
 shared-slice-read-if2-2 c = search needs
 
 returns-2 : tie.Need-returns-2 Inv-loop μ-loop
-returns-2 c = λ e. c .if2 .taken (ap (λ (l : List ℕ). getD l (c .before .before .before .before .loop .i) 0) e)
+returns-2 c =
+    let i = c .before .before .before .before .loop .i in (
+      λ e. c .if2 .taken (ap (λ (l : List ℕ). getD l i 0) e),
+      λ long e. c .if2 .taken (row-words _ _ long (λ j. c .before .before .shared-slice-known .given j .fits) (λ j. c .before .shared-slice-known2 .given j .fits) e i (omega arith)),
+    )
 
 add-i : tie.Need-add-i Inv-loop μ-loop
 add-i c = search needs
@@ -52,7 +56,8 @@ returns-3 : tie.Need-returns-3 Inv-loop μ-loop
 returns-3 c =
     let at = c .before in
     let e : length (at .before .before .args .a .now) ≡ length (at .before .before .args .b .now) = omega arith in
-    ext-getD 0 _ _ e (λ k h. at .loop .inv .1 k (omega arith))
+    let same : at .before .before .args .a .now ≡ at .before .before .args .b .now = ext-getD 0 _ _ e (λ k h. at .loop .inv .1 k (omega arith)) in
+    (same, λ long. ap (ofRow 0) same)
 
 pub same-spec : {M : Type 1} → statement M
 same-spec =

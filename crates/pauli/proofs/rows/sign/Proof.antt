@@ -1,6 +1,6 @@
 -- `pauli::rows::sign` meets its contract. Assumes nothing.
-use mathlib.Core.Path.{_≡_, sym, ap, _∙_}
-use Prim.Native.Nat.{_≤_, _/_, _+_, _%_, _-_}
+use mathlib.Core.Path.{_≡_, sym}
+use Prim.Native.Nat.{_/_, _-_}
 use lib.ListN.{length}
 use Rattle.model.specs.Pauli.{quarter}
 use Rattle.pauli.specs.Rows.{ofRow}
@@ -10,9 +10,6 @@ use native.Mathlib.Omega.{arith}
 use borrow.Author.Needs.{needs}
 use Rattle.pauli.proofs.rows.sign.Statement.{statement}
 use Rattle.pauli.proofs.rows.sign.Tie as tie
-use Rattle.pauli.proofs.rows.sign.Reads as reads
-use Rattle.pauli.proofs.rows.sign.Lts as lts
-use Rattle.pauli.proofs.rows.ys.Reads as ys-reads
 
 slice-aggregate-ys : tie.Need-slice-aggregate-ys
 slice-aggregate-ys c = sym (front-length (c .before .before .args .row .now) (length (c .before .before .args .row .now) / 2) (omega arith))

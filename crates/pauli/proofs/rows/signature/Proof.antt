@@ -1,9 +1,8 @@
 -- `pauli::rows::signature` meets its contract. Assumes nothing.
-use mathlib.Core.Path.{_≡_, sym, ap, ap₂, _∙_}
-use Prim.Native.Nat.{ℕ, _≤_, _-_, _*_}
+use mathlib.Core.Path.{sym, ap₂, _∙_}
+use Prim.Native.Nat.{ℕ, _-_}
 use mathlib.Core.List.{List}
-use lib.ListN.{length, take, drop}
-use lib.Bits.{bitOr}
+use lib.ListN.{take}
 use Rattle.pauli.specs.Rows.{value}
 use Rattle.pauli.specs.Rows.{signature, ofRow}
 use Rattle.pauli.proofs.Words.{front-length, rest-length, rest-part, x-plane, z-plane}
@@ -11,9 +10,6 @@ use native.Mathlib.Omega.{arith}
 use borrow.Author.Needs.{needs}
 use Rattle.pauli.proofs.rows.signature.Statement.{statement}
 use Rattle.pauli.proofs.rows.signature.Tie as tie
-use Rattle.pauli.proofs.rows.signature.Reads as reads
-use Rattle.pauli.proofs.rows.signature.Lts as lts
-use Rattle.pauli.proofs.rows.support.Reads as support-reads
 
 slice-aggregate-support : tie.Need-slice-aggregate-support
 slice-aggregate-support c = sym (front-length (c .before .before .args .axis .now) (c .before .before .args .l) (omega arith))

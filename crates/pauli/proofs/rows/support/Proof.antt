@@ -1,18 +1,15 @@
 -- `pauli::rows::support` meets its contract: what is found so far, with what the words to come give, is the whole. Assumes nothing.
 use mathlib.Core.Path.{_≡_, sym, ap, _∙_}
-use Prim.Native.Nat.{ℕ, _≤_, _<_, _+_, _*_, _-_, _^_}
+use Prim.Native.Nat.{ℕ, _≤_, _+_, _*_, _-_, _^_}
 use native.Mathlib.Nat.{mul-one, zero-mul}
 use native.Mathlib.Omega.{arith}
 use lib.Bits.{bitOr, or-zero-r}
 use lib.ListN.{length, getD}
 use borrow.Author.Needs.{needs}
-use Rattle.pauli.specs.Rows.{value, blocks, left, signature}
+use Rattle.pauli.specs.Rows.{value, blocks}
 use Rattle.pauli.proofs.Signatures.{union, union-start, union-step, union-end, left-none, left-whole, blocks-none, signature-blocks}
 use Rattle.pauli.proofs.rows.support.Statement.{statement}
 use Rattle.pauli.proofs.rows.support.Tie as tie
-use Rattle.pauli.proofs.rows.support.Reads as reads
-use Rattle.pauli.proofs.rows.support.Lts as lts
-use Rattle.pauli.proofs.rows.marked.Reads as marked-reads
 
 abbrev Inv-loop : tie.InvT-loop
 Inv-loop x z l sig₀ j₀ sig j = (j ≤ l) × (bitOr sig (blocks l (union x z j * 2 ^ (64 * j)) 64) ≡ blocks l (bitOr (value x) (value z)) 64)

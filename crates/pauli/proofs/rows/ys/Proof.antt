@@ -1,6 +1,6 @@
 -- `pauli::rows::ys` meets its contract: what is counted so far, with what the words to come have in common. Assumes nothing.
-use mathlib.Core.Path.{_≡_, sym, ap, _∙_}
-use Prim.Native.Nat.{_≤_, _<_, _+_, _-_, _%_, _^_}
+use mathlib.Core.Path.{_≡_}
+use Prim.Native.Nat.{_≤_, _<_, _+_, _-_, _%_}
 use lib.ListN.{length, getD}
 use lib.Bits.{bitAnd, and-lt}
 use lib.Count.{ones, ones-le}
@@ -12,8 +12,6 @@ use native.Mathlib.Omega.{arith}
 use borrow.Author.Needs.{needs}
 use Rattle.pauli.proofs.rows.ys.Statement.{statement}
 use Rattle.pauli.proofs.rows.ys.Tie as tie
-use Rattle.pauli.proofs.rows.ys.Reads as reads
-use Rattle.pauli.proofs.rows.ys.Lts as lts
 
 abbrev Inv-loop : tie.InvT-loop
 Inv-loop x z sum₀ i₀ sum i = (i ≤ length x) × (sum < 4) × ((sum + common x z i) % 4 ≡ count (bitAnd (value x) (value z)) % 4)

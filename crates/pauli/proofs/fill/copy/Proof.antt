@@ -1,15 +1,13 @@
--- `frame::opening::copy` meets its contract: the words before `i` are copied. Assumes nothing.
-use Rattle.frame.proofs.FreshLaws.{written-none, written-more}
-use Rattle.frame.specs.Written.{Written}
+-- `pauli::fill::copy` meets its contract: the words before `i` are copied. Assumes nothing.
+use Rattle.pauli.proofs.FillLaws.{written-none, written-more}
+use Rattle.pauli.specs.Fill.{Written}
 use lib.ListN.{length, getD}
 use Prim.Native.Nat.{ℕ, _≤_, _-_}
 use mathlib.Core.Path.{_≡_, refl, subst}
 use borrow.Author.Needs.{needs}
 use native.Mathlib.Omega.{arith}
-use Rattle.frame.proofs.opening.copy.Statement.{statement}
-use Rattle.frame.proofs.opening.copy.Tie as tie
-use Rattle.frame.proofs.opening.copy.Reads as reads
-use Rattle.frame.proofs.opening.copy.Lts as lts
+use Rattle.pauli.proofs.fill.copy.Statement.{statement}
+use Rattle.pauli.proofs.fill.copy.Tie as tie
 
 abbrev Inv-loop : tie.InvT-loop
 Inv-loop s₀ at of i₀ s i = (i ≤ length of) × Written s₀ at i (λ k. getD of k 0) s

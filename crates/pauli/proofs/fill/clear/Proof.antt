@@ -1,14 +1,12 @@
--- `frame::opening::clear` meets its contract: the words before `i` are 0. Assumes nothing.
-use Rattle.frame.proofs.FreshLaws.{written-none, written-more}
-use Rattle.frame.specs.Written.{Written}
+-- `pauli::fill::clear` meets its contract: the words before `i` are 0. Assumes nothing.
+use Rattle.pauli.proofs.FillLaws.{written-none, written-more}
+use Rattle.pauli.specs.Fill.{Written}
 use Prim.Native.Nat.{ℕ, _≤_, _-_}
 use mathlib.Core.Path.{_≡_, refl, subst}
 use borrow.Author.Needs.{needs}
 use native.Mathlib.Omega.{arith}
-use Rattle.frame.proofs.opening.clear.Statement.{statement}
-use Rattle.frame.proofs.opening.clear.Tie as tie
-use Rattle.frame.proofs.opening.clear.Reads as reads
-use Rattle.frame.proofs.opening.clear.Lts as lts
+use Rattle.pauli.proofs.fill.clear.Statement.{statement}
+use Rattle.pauli.proofs.fill.clear.Tie as tie
 
 abbrev Inv-loop : tie.InvT-loop
 Inv-loop s₀ at words i₀ s i = (i ≤ words) × Written s₀ at i (λ k. 0) s

@@ -1,0 +1,94 @@
+-- Where a number stands in a rising list: the ends of a halving, and what a place in a part says of the whole list. Assumes nothing.
+use mathlib.Core.Path.{_≡_, sym, ap, _∙_}
+use mathlib.Core.Logic.{⊎-elim}
+use mathlib.Core.List.{List}
+use Prim.Native.Nat.{ℕ, _+_, _-_, _≤_, _<_}
+use native.Mathlib.Omega.{arith}
+use lib.ListN.{length, getD, take, drop}
+use lib.Seq.{getD-drop}
+use Rattle.pauli.proofs.Words.{rest-part, rest-length}
+use Rattle.pauli.proofs.Walk.{same?}
+use Rattle.pauli.proofs.Digits.{three}
+use Rattle.lists.specs.Lists.{Rises, Splits}
+
+-- ---- halving
+
+-- the first number past a stands at lo or later, and at hi or before
+pub record Between (ids : List ℕ) (a lo hi : ℕ) : Type 0 where
+  pub order : lo ≤ hi
+  pub within : hi ≤ length ids
+  pub below : Rises ids → (k : ℕ) → k < lo → getD ids k 0 ≤ a
+  pub above : Rises ids → (k : ℕ) → hi ≤ k → k < length ids → a < getD ids k 0
+
+module _ (ids : List ℕ) (a : ℕ) where
+  pub between-start : Between ids a 0 (length ids)
+  between-start = record { order = omega arith; within = omega arith; below = λ r k l. absurd (omega arith); above = λ r k l m. absurd (omega arith) }
+
+  pub between-up : (lo hi mid : ℕ) → Between ids a lo hi → lo ≤ mid → mid < hi → getD ids mid 0 ≤ a → Between ids a (mid + 1) hi
+  between-up lo hi mid b l h e = record {
+    order = omega arith;
+    within = b .within;
+    below = λ r k lk. ⊎-elim (λ (q : k ≡ mid). omega (arith, ap (λ (i : ℕ). getD ids i 0) q)) (λ d. omega (arith, r k mid (omega arith) (omega (arith, b .within)))) (same? k mid);
+    above = b .above;
+  }
+
+  pub between-down : (lo hi mid : ℕ) → Between ids a lo hi → lo ≤ mid → mid < hi → a < getD ids mid 0 → Between ids a lo mid
+  between-down lo hi mid b l h e = record {
+    order = l;
+    within = omega (arith, b .within);
+    below = b .below;
+    above = λ r k lk ln. ⊎-elim (λ (q : k ≡ mid). omega (arith, ap (λ (i : ℕ). getD ids i 0) q)) (λ d. omega (arith, r mid k (omega arith) ln)) (same? k mid);
+  }
+
+  pub between-end : (lo hi : ℕ) → Between ids a lo hi → hi ≤ lo → Rises ids → Splits ids a lo
+  between-end lo hi b h r = record {
+    within = omega (arith, b .order, b .within);
+    below = b .below r;
+    above = λ k lk ln. b .above r k (omega arith) ln;
+  }
+
+-- ---- the part from lo on
+
+module _ (ids : List ℕ) (lo : ℕ) where
+  rest-at : (k : ℕ) → getD (take (length ids - lo) (drop lo ids)) k 0 ≡ getD ids (lo + k) 0
+  rest-at k = ap (λ (p : List ℕ). getD p k 0) (rest-part ids lo) ∙ getD-drop lo ids k 0
+
+  pub rises-rest : Rises ids → Rises (take (length ids - lo) (drop lo ids))
+  rises-rest r i j l m =
+      let e = rest-at i in
+      let f = rest-at j in
+      let n = rest-length ids lo in
+      omega (arith, e, f, r (lo + i) (lo + j) (omega arith) (omega (arith, n)))
+
+  -- where lo is not past the number, and k is the first place past it in the part: it stands nowhere if k is 0, and else at lo + k - 1 alone
+  module _ (id k : ℕ) (low : 0 < lo → getD ids lo 0 ≤ id) (inside : lo < length ids)
+      (splits : Rises (take (length ids - lo) (drop lo ids)) → Splits (take (length ids - lo) (drop lo ids)) id k) where
+    rest-above : Rises ids → (p : ℕ) → lo + k ≤ p → p < length ids → id < getD ids p 0
+    rest-above r p l m =
+        let e = rest-at (p - lo) in
+        let n = rest-length ids lo in
+        let f : lo + (p - lo) ≡ p = omega arith in
+        omega (arith, e, ap (λ (i : ℕ). getD ids i 0) f, splits (rises-rest r) .above (p - lo) (omega arith) (omega (arith, n)))
+
+    pub none-there : k ≡ 0 → Rises ids → (p : ℕ) → p < length ids → getD ids p 0 ≡ id → ⊥
+    none-there z r p l e =
+        ⊎-elim
+        (λ (q : lo < p). omega (arith, rest-above r p (omega arith) l))
+        (⊎-elim
+        (λ (q : p ≡ lo). omega (arith, rest-above r p (omega arith) l))
+        (λ (q : p < lo). omega (arith, low (omega arith), rest-above r lo (omega arith) inside)))
+        (three p lo)
+
+    rest-below : Rises ids → 0 < k → getD ids (lo + k - 1) 0 ≤ id
+    rest-below r h =
+        let f : lo + (k - 1) ≡ lo + k - 1 = omega arith in
+        omega (arith, rest-at (k - 1), ap (λ (i : ℕ). getD ids i 0) f, splits (rises-rest r) .below (k - 1) (omega arith))
+
+    pub other-there : 0 < k → k ≤ length ids - lo → (getD ids (lo + k - 1) 0 ≡ id → ⊥) → Rises ids → (p : ℕ) → p < length ids → getD ids p 0 ≡ id → ⊥
+    other-there h w d r p l e =
+        ⊎-elim
+        (λ (q : lo + k - 1 < p). omega (arith, rest-above r p (omega arith) l))
+        (⊎-elim
+        (λ (q : p ≡ lo + k - 1). d (sym (ap (λ (i : ℕ). getD ids i 0) q) ∙ e))
+        (λ (q : p < lo + k - 1). omega (arith, rest-below r h, r p (lo + k - 1) q (omega arith))))
+        (three p (lo + k - 1))

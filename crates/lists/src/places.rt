@@ -1,0 +1,69 @@
+// Where a number stands in a rising list.
+ghost use Prim.Native.Nat.{_<_, _≤_};
+ghost use lib.ListN.{length, getD};
+ghost use Rattle.lists.specs.Lists.{Rises, Splits, Sought};
+
+// The place of the first number past `after`, or the length.
+pub fn first_after(ids: &[u64], after: u64) -> usize
+    ensures within { λ r. ⌜ r ≤ length (now (ids .entry)) ⌝ }
+    ensures splits { λ r. ⌜ (Rises (now (ids .entry)) → Splits (now (ids .entry)) after r) ⌝ }
+{
+    let mut lo = 0;
+    let mut hi = ids.len();
+    while lo < hi {
+        let mid = lo + (hi - lo) / 2;
+        if ids[mid] <= after {
+            lo = mid + 1;
+        } else {
+            hi = mid;
+        }
+    }
+    lo
+}
+
+// A place that is not past the first number of at least `id`. Rotations usually merge away soon after they are recorded, so it gallops
+// back from the end, by steps that double (the Rust's `SlicedList::kill`).
+fn gallop(ids: &[u64], id: u64) -> usize
+    requires { ⌜ 0 < length (now ids) ⌝ }
+    ensures within { λ r. ⌜ r < length (now (ids .entry)) ⌝ }
+    ensures low { λ r. ⌜ (0 < r → getD (now (ids .entry)) r 0 ≤ id) ⌝ }
+{
+    let mut lo = ids.len() - 1;
+    let mut span = 1;
+    while lo > 0 {
+        if ids[lo] <= id {
+            return lo;
+        }
+        if lo < span {
+            return 0;
+        }
+        lo -= span;
+        span *= 2;
+    }
+    0
+}
+
+// A place in a list, or that the number is not there.
+pub enum Place {
+    At(usize),
+    Lost,
+}
+
+// The place of `id`: from where the gallop ends, by halving.
+pub fn place_of(ids: &[u64], id: u64) -> Place
+    ensures { λ r. ⌜ Sought (now (ids .entry)) id r ⌝ }
+{
+    if ids.len() == 0 {
+        return Place::Lost;
+    }
+    let lo = gallop(ids, id);
+    let k = first_after(&ids[lo..], id);
+    if k == 0 {
+        return Place::Lost;
+    }
+    let p = lo + k - 1;
+    if ids[p] != id {
+        return Place::Lost;
+    }
+    Place::At(p)
+}

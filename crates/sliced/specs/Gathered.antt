@@ -1,0 +1,34 @@
+-- Which entries of a block anticommute with an axis, by its masks. Assumes nothing.
+use mathlib.Core.Path.{_≡_}
+use mathlib.Core.List.{List}
+use Prim.Native.Nat.{ℕ, zero, suc, _+_, _*_, _/_, _<_}
+use lib.Bits.{bitXor}
+use lib.ListN.{length, getD}
+use Rattle.model.specs.Pauli.{has, apart}
+
+-- x where the digit d is set
+unfoldable pub pick : (d x : ℕ) → ℕ
+pick zero x = 0
+pick (suc d) x = x
+
+-- the exclusive or of f p over the set digits p of w below k
+unfoldable pub over : ℕ → (ℕ → ℕ) → ℕ → ℕ
+unfolding pick
+over zero f w = 0
+over (suc k) f w = bitXor (over k f w) (pick (has w k) (f k))
+
+abbrev pub mask : List ℕ → (odd p : ℕ) → ℕ
+mask masks odd p = getD masks (2 * p + odd) 0
+
+-- the exclusive or of the X masks (odd is 0) or the Z masks (odd is 1) of the qubits in w
+abbrev pub gathered : List ℕ → (odd w : ℕ) → ℕ
+gathered masks odd w = over (length masks / 2) (mask masks odd) w
+
+-- entry i of the block has the axis (x, z)
+pub record Has (masks : List ℕ) (i x z : ℕ) : Type 0 where
+  pub xs : (p : ℕ) → p < length masks / 2 → has (mask masks 0 p) i ≡ has x p
+  pub zs : (p : ℕ) → p < length masks / 2 → has (mask masks 1 p) i ≡ has z p
+
+-- digit i of the word r is 1 where entry i anticommutes with (ax, az)
+abbrev pub Marks : List ℕ → (ax az r : ℕ) → Type 0
+Marks masks ax az r = (i x z : ℕ) → Has masks i x z → has r i ≡ apart x z ax az

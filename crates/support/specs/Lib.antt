@@ -1,0 +1,2 @@
+-- The definitions that the contracts of `support` cite.
+pub mod Families
