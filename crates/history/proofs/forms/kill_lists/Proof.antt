@@ -24,47 +24,36 @@ sliced c = let s = c .before .before .before in as-sliced (s .args .form) (s .ar
 sliced-fits : (c : tie.After-enum-told2) → let a = c .before .before .before .args in 2 + 7 * a .cap + a .cap * (2 * a .l) + (a .cap + 63) / 64 + 2 * a .n ≤ length (a .h .now)
 sliced-fits c = let a = c .before .before .before .args in omega (arith, sliced-long (a .n) (a .cap) (a .l) (a .h .now) (sliced c))
 
--- src/forms.rt:71:21
 mul-alive : tie.Need-mul-alive
 mul-alive c = search needs
 
--- src/forms.rt:71:17
 add-alive : tie.Need-add-alive
 add-alive c = search needs
 
--- src/forms.rt:71:38
 mul-alive-2 : tie.Need-mul-alive-2
 mul-alive-2 c = search needs
 
--- src/forms.rt:71:31
 mul-alive-3 : tie.Need-mul-alive-3
 mul-alive-3 c = omega (arith, counted c)
 
--- src/forms.rt:71:17
 add-alive-2 : tie.Need-add-alive-2
 add-alive-2 c = omega (arith, counted c)
 
--- src/forms.rt:72:27
 add-counts : tie.Need-add-counts
 add-counts c = search needs
 
--- src/forms.rt:72:18
 add-counts-2 : tie.Need-add-counts-2
 add-counts-2 c = omega (arith, counted c)
 
--- src/forms.rt:75:13
 enum-told : tie.Need-enum-told
 enum-told c = search needs
 
--- src/forms.rt:77:22
 mul-kill-scalar : tie.Need-mul-kill-scalar
 mul-kill-scalar c = search needs
 
--- src/forms.rt:77:13
 add-kill-scalar : tie.Need-add-kill-scalar
 add-kill-scalar c = let a = c .before .before .before .before .args in omega (arith, scalar-long (a .n) (a .cap) (a .l) (a .h .now) (scalar (c .before)))
 
--- src/forms.rt:74:25
 kill-scalar-requires : tie.Need-kill-scalar-requires
 unfolding words listCount
 kill-scalar-requires c κs =
@@ -73,38 +62,30 @@ kill-scalar-requires c κs =
     let p = s .pre .1 in
     (scalar-rooms (a .n) (a .cap) (a .l) (a .h .now) (scalar (c .before)), omega arith)
 
--- src/forms.rt:84:23
 enum-told-2 : tie.Need-enum-told-2
 enum-told-2 c = search needs
 
--- src/forms.rt:84:16
 shr-if1 : tie.Need-shr-if1
 shr-if1 c = omega (arith, sliced c .narrow .0)
 
--- src/forms.rt:85:17
 returns : tie.Need-returns
 returns c =
     let s = c .before .before .before .before in
     let a = s .args in
     (refl, λ m held count lv. absurd (kill-taken (a .n) (a .cap) (a .l) m (a .id) (a .sig) (a .h .now) (sliced (c .before) .narrow .0) (sliced (c .before) .narrow .1) (c .if1 .taken) lv))
 
--- src/forms.rt:90:26
 mul-kill-sliced : tie.Need-mul-kill-sliced
 mul-kill-sliced c = omega (arith, sliced-fits (c .before .before))
 
--- src/forms.rt:90:17
 add-kill-sliced : tie.Need-add-kill-sliced
 add-kill-sliced c = omega (arith, sliced-fits (c .before .before))
 
--- src/forms.rt:96:21
 mul-kill-sliced-2 : tie.Need-mul-kill-sliced-2
 mul-kill-sliced-2 c = search needs
 
--- src/forms.rt:96:17
 add-kill-sliced-2 : tie.Need-add-kill-sliced-2
 add-kill-sliced-2 c = search needs
 
--- src/forms.rt:87:13
 kill-sliced-requires : tie.Need-kill-sliced-requires
 unfolding words listCount
 kill-sliced-requires c κs =
@@ -114,11 +95,9 @@ kill-sliced-requires c κs =
     let two = two-words (a .cap) (a .l) (sliced (c .before .before) .narrow .1) in
     (sliced-rooms (a .n) (a .cap) (a .l) (a .h .now) (sliced (c .before .before)), shr-none (a .n) (a .sig) (c .before .if1 .left), omega arith, omega arith)
 
--- src/forms.rt:57:1
 same-length : tie.Need-same-length
 same-length c = search needs
 
--- src/forms.rt:57:1
 returns-2 : tie.Need-returns-2
 unfolding words listCount
 returns-2 c =
@@ -130,11 +109,9 @@ returns-2 c =
           (kill-scalars (a .n) (a .cap) (a .l) (a .h .now) (call .kill-scalar .last .0) (a .id) (a .sig) (a .events) (call .kill-scalar .result) (call .kill-scalar .ensures .1)),
     )
 
--- src/forms.rt:57:1
 same-length-2 : tie.Need-same-length-2
 same-length-2 c = search needs
 
--- src/forms.rt:57:1
 returns-3 : tie.Need-returns-3
 unfolding words listCount
 returns-3 c =

@@ -24,94 +24,73 @@ sliced c = let s = c .before .before .before .before in as-sliced (s .args .form
 sliced-fits : (c : tie.After-enum-told2) → let a = c .before .before .before .before .args in 2 + 7 * a .cap + a .cap * (2 * a .l) + (a .cap + 63) / 64 + 2 * a .n ≤ length (a .h .now)
 sliced-fits c = let a = c .before .before .before .before .args in omega (arith, sliced-long (a .n) (a .cap) (a .l) (a .h .now) (sliced c))
 
--- src/forms.rt:35:22
 mul-counts : tie.Need-mul-counts
 mul-counts c = search needs
 
--- src/forms.rt:35:18
 add-counts : tie.Need-add-counts
 add-counts c = search needs
 
--- src/forms.rt:35:39
 mul-counts-2 : tie.Need-mul-counts-2
 mul-counts-2 c = search needs
 
--- src/forms.rt:35:32
 mul-counts-3 : tie.Need-mul-counts-3
 mul-counts-3 c = omega (arith, counted c)
 
--- src/forms.rt:35:18
 add-counts-2 : tie.Need-add-counts-2
 add-counts-2 c = omega (arith, counted c)
 
--- src/forms.rt:35:49
 add-counts-3 : tie.Need-add-counts-3
 add-counts-3 c = search needs
 
--- src/forms.rt:35:18
 add-counts-4 : tie.Need-add-counts-4
 add-counts-4 c = omega (arith, counted c)
 
--- src/forms.rt:38:13
 enum-told : tie.Need-enum-told
 enum-told c = search needs
 
--- src/forms.rt:40:22
 mul-push-scalar : tie.Need-mul-push-scalar
 mul-push-scalar c = search needs
 
--- src/forms.rt:40:13
 add-push-scalar : tie.Need-add-push-scalar
 add-push-scalar c = let a = c .before .before .before .before .before .args in omega (arith, scalar-long (a .n) (a .cap) (a .l) (a .h .now) (scalar (c .before)))
 
--- src/forms.rt:37:25
 push-scalar-requires : tie.Need-push-scalar-requires
 unfolding words listCount
 push-scalar-requires c κs = let a = c .before .before .before .before .before .args in scalar-rooms (a .n) (a .cap) (a .l) (a .h .now) (scalar (c .before))
 
--- src/forms.rt:46:21
 enum-told-2 : tie.Need-enum-told-2
 enum-told-2 c = search needs
 
--- src/forms.rt:46:21
 shared-slice-read-x : tie.Need-shared-slice-read-x
 shared-slice-read-x c = omega (arith, sliced (c .before) .narrow .1)
 
--- src/forms.rt:47:21
 shared-slice-read-z : tie.Need-shared-slice-read-z
 shared-slice-read-z c = omega (arith, sliced (c .before .before) .narrow .1)
 
--- src/forms.rt:48:16
 shr-if1 : tie.Need-shr-if1
 shr-if1 c = omega (arith, sliced (c .before .before) .narrow .0)
 
--- src/forms.rt:49:17
 returns : tie.Need-returns
 returns c =
     let s = c .before .before .before .before .before .before .before in
     let a = s .args in
     (refl, λ m e held count room new. absurd (push-taken (a .n) (a .l) (a .axis .now) (a .sig) e (sliced (c .before .before .before) .narrow .1) (s .pre .1) (c .if1 .taken) new))
 
--- src/forms.rt:51:61
 mul-push-sliced : tie.Need-mul-push-sliced
 mul-push-sliced c = omega (arith, sliced-fits (c .before .before .before .before))
 
--- src/forms.rt:51:52
 add-push-sliced : tie.Need-add-push-sliced
 add-push-sliced c = omega (arith, sliced-fits (c .before .before .before .before))
 
--- src/forms.rt:51:13
 push-sliced-requires : tie.Need-push-sliced-requires
 unfolding words listCount
 push-sliced-requires c κs =
     let a = c .before .before .before .before .before .before .before .before .args in
     (sliced-rooms (a .n) (a .cap) (a .l) (a .h .now) (sliced (c .before .before .before .before)), or-left (a .n) (getD (a .axis .now) 0 0) (getD (a .axis .now) 1 0) (c .before .if1 .left), or-right (a .n) (getD (a .axis .now) 0 0) (getD (a .axis .now) 1 0) (c .before .if1 .left))
 
--- src/forms.rt:21:1
 same-length : tie.Need-same-length
 same-length c = search needs
 
--- src/forms.rt:21:1
 returns-2 : tie.Need-returns-2
 unfolding words listCount
 returns-2 c =
@@ -123,11 +102,9 @@ returns-2 c =
           (push-scalars (a .n) (a .cap) (a .l) (a .h .now) (call .push-scalar .last .0) (a .axis .now) (a .id) (a .sig) (call .push-scalar .result) (call .push-scalar .ensures .1)),
     )
 
--- src/forms.rt:21:1
 same-length-2 : tie.Need-same-length-2
 same-length-2 c = search needs
 
--- src/forms.rt:21:1
 returns-3 : tie.Need-returns-3
 unfolding words listCount
 returns-3 c =

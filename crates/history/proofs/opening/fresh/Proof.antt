@@ -12,67 +12,52 @@ use Rattle.history.proofs.opening.fresh.Tie as tie
 counted : (c : tie.After-slice-known) → let a = c .before .args in 2 + 7 * a .cap + a .cap * (2 * a .l) + (a .cap + 63) / 64 ≤ length (a .h .now)
 counted c = let s = c .before in counts-fit (s .args .form) (s .args .n) (s .args .cap) (s .args .l) (s .args .h .now) (s .pre)
 
--- src/opening.rt:27:22
 mul-counts : tie.Need-mul-counts
 mul-counts c = search needs
 
--- src/opening.rt:27:18
 add-counts : tie.Need-add-counts
 add-counts c = search needs
 
--- src/opening.rt:27:39
 mul-counts-2 : tie.Need-mul-counts-2
 mul-counts-2 c = search needs
 
--- src/opening.rt:27:32
 mul-counts-3 : tie.Need-mul-counts-3
 mul-counts-3 c = omega (arith, counted c)
 
--- src/opening.rt:27:18
 add-counts-2 : tie.Need-add-counts-2
 add-counts-2 c = omega (arith, counted c)
 
--- src/opening.rt:27:49
 add-counts-3 : tie.Need-add-counts-3
 add-counts-3 c = search needs
 
--- src/opening.rt:27:18
 add-counts-4 : tie.Need-add-counts-4
 add-counts-4 c = omega (arith, counted c)
 
--- src/opening.rt:28:9
 list-count-requires : tie.Need-list-count-requires
 list-count-requires c κs = search needs
 
--- src/opening.rt:29:34
 mul-clear : tie.Need-mul-clear
 mul-clear c = search needs
 
--- src/opening.rt:29:30
 add-clear : tie.Need-add-clear
 add-clear c = search needs
 
--- src/opening.rt:29:5
 clear-requires : tie.Need-clear-requires
 clear-requires c κs = let s = c .before .before .before in omega (arith, heads-fit (formOf (s .args .form)) (s .args .n) (s .args .cap) (s .args .l) (s .args .h .now) (s .pre))
 
--- src/opening.rt:30:35
 mul-clear-2 : tie.Need-mul-clear-2
 mul-clear-2 c =
     let s = c .before .before .before .before .before .before .before in
     omega (arith, lists-fit (formOf (s .args .form)) (s .args .n) (s .args .cap) (s .args .l) (s .args .h .now) (s .pre), c .before .before .before .before .before .list-count .ensures)
 
--- src/opening.rt:30:5
 clear-requires-2 : tie.Need-clear-requires-2
 clear-requires-2 c κs =
     let s = c .before .before .before .before .before .before .before in
     omega (arith, lists-fit (formOf (s .args .form)) (s .args .n) (s .args .cap) (s .args .l) (s .args .h .now) (s .pre), c .before .before .before .before .before .list-count .ensures, c .before .before .before .clear .ensures .same-length)
 
--- src/opening.rt:23:1
 same-length : tie.Need-same-length
 same-length c = search needs
 
--- src/opening.rt:23:1
 returns : tie.Need-returns
 returns c =
     let s = c .before .before .before .before .before .before .before .before .before .before in

@@ -4,19 +4,15 @@ use borrow.Author.Needs.{needs}
 use Rattle.history.proofs.opening.list_count.Statement.{statement}
 use Rattle.history.proofs.opening.list_count.Tie as tie
 
--- src/opening.rt:17:25
 enum-told : tie.Need-enum-told
 enum-told c = search needs
 
--- src/opening.rt:18:25
 enum-told-2 : tie.Need-enum-told-2
 enum-told-2 c = search needs
 
--- src/opening.rt:13:1
 returns : tie.Need-returns
 returns c = let a = c .before .before .args in count-scalar (a .form) (a .n) (c .enum-told .given .1)
 
--- src/opening.rt:13:1
 returns-2 : tie.Need-returns-2
 returns-2 c = let a = c .before .before .args in count-sliced (a .form) (a .n) (c .enum-told2 .given .1)
 

@@ -5,19 +5,15 @@ use borrow.Author.Needs.{needs}
 use Rattle.history.proofs.record.clear.Statement.{statement}
 use Rattle.history.proofs.record.clear.Tie as tie
 
--- src/record.rt:101:12
 slice-read-h : tie.Need-slice-read-h
 slice-read-h c = search needs
 
--- src/record.rt:101:5
 slice-write-h : tie.Need-slice-write-h
 slice-write-h c = search needs
 
--- src/record.rt:97:1
 same-length : tie.Need-same-length
 same-length c = search needs
 
--- src/record.rt:97:1
 returns : tie.Need-returns
 returns c = λ f n cap l m held. cleared-becomes f n cap l m (c .before .args .h .now) (omega arith) held
 

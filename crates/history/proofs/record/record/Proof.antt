@@ -12,29 +12,24 @@ use borrow.Author.Needs.{needs}
 use Rattle.history.proofs.record.record.Statement.{statement}
 use Rattle.history.proofs.record.record.Tie as tie
 
--- src/record.rt:83:14
 slice-read-id : tie.Need-slice-read-id
 slice-read-id c =
     let s = c .before .before .before in
     let a = s .args in
     omega (arith, counts-there (formOf (a .form)) (a .n) (a .cap) (a .l) (now (a .h)) (s .pre .0))
 
--- src/record.rt:85:9
 returns : tie.Need-returns
 returns c = (refl, λ m e held sane room new. absurd (omega (arith, held .count, room, c .if1 .taken)))
 
--- src/record.rt:87:9
 signature-requires : tie.Need-signature-requires
 signature-requires c κs = search needs
 
--- src/record.rt:88:5
 put-event-requires : tie.Need-put-event-requires
 put-event-requires c κs =
     let s = c .before .before .before .before .before .before in
     let a = s .args in
     (counts-there (formOf (a .form)) (a .n) (a .cap) (a .l) (now (a .h)) (s .pre .0), s .pre .0 .some, s .pre .0 .few, omega arith, s .pre .1, s .pre .2)
 
--- src/record.rt:89:9
 push-lists-requires : tie.Need-push-lists-requires
 push-lists-requires c κs =
     let s = c .before .before .before .before .before .before .before .before .before .before in
@@ -42,11 +37,9 @@ push-lists-requires c κs =
     let put = c .before .before .before .put-event in
     (sized-same (formOf (a .form)) (a .n) (a .cap) (a .l) (now (a .h)) (put .last .0) (put .ensures .1) (s .pre .0), s .pre .1)
 
--- src/record.rt:90:9
 same-length : tie.Need-same-length
 same-length c = search needs
 
--- src/record.rt:90:9
 returns-2 : tie.Need-returns-2
 returns-2 c =
     let s = c .before .before .before .before .before .before .before .before .before .before .before .before .before .before in
@@ -56,11 +49,9 @@ returns-2 c =
     let lists = c .before .before .before .push-lists in
     (lists .ensures .0 ∙ put .ensures .1, λ m e held sane room new. clash (not (lists .result)) (c .if2 .taken) (ap not (record-goes (formOf (a .form)) (a .n) (a .cap) (a .l) (sg .result) (now (a .axis)) (a .body) (now (a .h)) (put .last .0) (lists .last .0) (lists .result) (sg .ensures) (put .ensures .0) (lists .ensures .1) m e held sane room new)))
 
--- src/record.rt:92:13
 add-h : tie.Need-add-h
 add-h c = search needs
 
--- src/record.rt:92:5
 slice-write-h : tie.Need-slice-write-h
 slice-write-h c =
     let s = c .before .before .before .before .before .before .before .before .before .before .before .before .before .before in
@@ -69,14 +60,12 @@ slice-write-h c =
     let lists = c .before .before .before .push-lists in
     omega (arith, lists .ensures .0, put .ensures .1, counts-there (formOf (a .form)) (a .n) (a .cap) (a .l) (now (a .h)) (s .pre .0))
 
--- src/record.rt:70:1
 same-length-2 : tie.Need-same-length-2
 same-length-2 c =
     let put = c .before .before .before .before .before .before .before .put-event in
     let lists = c .before .before .before .push-lists in
     length-set (lists .last .0) 0 _ ∙ lists .ensures .0 ∙ put .ensures .1
 
--- src/record.rt:70:1
 returns-3 : tie.Need-returns-3
 returns-3 c =
     let s = c .before .before .before .before .before .before .before .before .before .before .before .before .before .before in
