@@ -1,0 +1,2 @@
+-- Laws behind the proofs of `searches`.
+pub mod SizeLaws

@@ -1,0 +1,28 @@
+-- Laws of the sizes of the two histories that are run: 423 words for four events in the scalar form, 648 for 64 in the sliced one.
+-- Assumes nothing.
+use mathlib.Core.Path.{_≡_, refl, sym, _∙_}
+use mathlib.Core.List.{List}
+use Prim.Native.Nat.{ℕ}
+use native.Mathlib.Omega.{arith}
+use lib.ListN.{length}
+use Rattle.model.specs.Events.{scalar, sliced, words}
+use Rattle.model.specs.Store.{listCount}
+use Rattle.history.specs.Words.{listSize, historyRoom}
+use Rattle.history.specs.Sizes.{Sized}
+
+scalar-room : historyRoom scalar 1 4 1 ≡ 423
+unfolding historyRoom listSize listCount words
+scalar-room = refl
+
+sliced-room : historyRoom sliced 1 64 1 ≡ 648
+unfolding historyRoom listSize listCount words
+sliced-room = refl
+
+pub scalar-sized : (h : List ℕ) → length h ≡ 423 → Sized scalar 1 4 1 h
+scalar-sized h e = record { some = omega arith; few = omega arith; planes = omega arith; narrow = tt; long = e ∙ sym scalar-room }
+
+pub sliced-sized : (h : List ℕ) → length h ≡ 648 → Sized sliced 1 64 1 h
+sliced-sized h e = record { some = omega arith; few = omega arith; planes = omega arith; narrow = (omega arith, refl); long = e ∙ sym sliced-room }
+
+pub scalar-long : (h : List ℕ) → Sized scalar 1 4 1 h → length h ≡ 423
+scalar-long h s = s .long ∙ scalar-room
