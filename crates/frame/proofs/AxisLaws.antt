@@ -1,8 +1,9 @@
 -- Laws of the axes read off a frame's words: the rows and labels of a qubit, rows as parts, and their signs. Assumes nothing.
 use mathlib.Core.Path.{_≡_, refl, sym, ap, ap₂, _∙_, subst}
+use mathlib.Core.Logic.{inl, inr}
 use mathlib.Core.Bool.{Bool, true, false}
 use mathlib.Core.List.{List}
-use Prim.Native.Nat.{ℕ, _+_, _-_, _*_, _%_, _^_, _≤_, _<_}
+use Prim.Native.Nat.{ℕ, zero, suc, _+_, _-_, _*_, _%_, _^_, _≤_, _<_}
 use native.Mathlib.Nat.{zero-add, mul-comm, suc-mul, add-sub-cancel-left, not-suc-le-zero}
 use native.Mathlib.Numerals.{add-one}
 use native.Mathlib.Omega.{arith}
@@ -10,14 +11,14 @@ use native.Mathlib.Decide.{ℕ-discrete, decLt}
 use lib.Bits.{bitAnd, bitXor}
 use lib.ListN.{length, getD, take, drop, set, length-drop, length-set}
 use lib.Seq.{getD-set-same, getD-set-other, getD-take, getD-drop, drop-drop, take-all, length-take-le}
-use Rattle.model.specs.Pauli.{Pauli, count, times, shift}
+use Rattle.model.specs.Pauli.{Pauli, count, quarter, signOf, sign, times, shift}
 use Rattle.model.specs.Frame.{Rows, xAt, zAt, axis, kindY, paulis}
 use Rattle.model.specs.Sketch.{Label, labelXor, labels}
-use Rattle.pauli.specs.Rows.{value, valueAt, xOf, zOf, ofRow}
+use Rattle.pauli.specs.Rows.{value, valueAt, xOf, zOf, ofRow, answer}
 use Rattle.pauli.proofs.Words.{rest-part, rest-length, x-plane, z-plane}
 use Rattle.pauli.proofs.RowLaws.{value-part, value-xor}
 use Rattle.frame.specs.Places.{Sized, rowPlace, labelPlace, IsRow, IsLabel, rowOf, Held}
-use Rattle.frame.specs.Axes.{stride, Reaches, rowWords, either, axisOf, Both, kindOf, tagOf}
+use Rattle.frame.specs.Axes.{stride, Reaches, rowWords, either, axisOf, SignOrNone, Both, kindOf, tagOf}
 use Rattle.frame.specs.declared.axes.Kind.{Kind}
 use Rattle.frame.specs.declared.axes.Kind.the-variants.{X, Y}
 use Rattle.frame.specs.declared.axes.Tag.{Tag}
@@ -263,3 +264,14 @@ module _ (n l q : ℕ) (s : List ℕ) (r : Rows Pauli) (k : Rows Label) (h : q <
       (one-label s (2 * n * (2 * l + 1) + 4 * q) (tagOf t) (xAt labels k q) i (x-label n l q s r k h held))
       (one-label s (2 * n * (2 * l + 1) + 4 * q + 2) (tagOf u) (zAt labels k q) j (z-label n l q s r k h held))
       ∙ sym (ap (λ (m : Kind). axis labels (kindOf m) q k) e)
+
+-- what is answered for a row's sign is a sign, or that there is none
+pub sign-or-none : (p : Pauli) → SignOrNone (answer (sign p))
+unfolding sign signOf answer
+sign-or-none p = go (quarter p)
+  where
+    go : (q : ℕ) → SignOrNone (answer (signOf q))
+    go zero = inl refl
+    go (suc zero) = tt
+    go (suc (suc zero)) = inr refl
+    go (suc (suc (suc q))) = tt

@@ -9,6 +9,9 @@ use Rattle.model.specs.Pauli.{Pauli}
 use Rattle.model.specs.Frame as model
 use Rattle.model.specs.Frame.{Rows, xAt, zAt, paulis}
 use Rattle.model.specs.Sketch.{Label}
+use Rattle.model.specs.Demands.{IsSign}
+use Rattle.pauli.specs.declared.rows.Signum.{Signum}
+use Rattle.pauli.specs.declared.rows.Signum.the-variants.{Is, No}
 use Rattle.frame.specs.declared.axes.Kind.{Kind}
 use Rattle.frame.specs.declared.axes.Kind.the-variants.{X, Y, Z, P}
 use Rattle.frame.specs.declared.axes.Tag.{Tag}
@@ -36,6 +39,14 @@ either false a b = b
 unfoldable pub axisOf : Bool → Rows Pauli → ℕ → Pauli
 unfolding either
 axisOf b r q = either b (xAt paulis r q) (zAt paulis r q)
+
+-- "+1 or -1", or no sign: whatever the words are
+abbrev pub SignOrNone : Signum → Type 0
+SignOrNone (Is g) = IsSign g
+SignOrNone No = Unit {0}
+
+abbrev pub noSign : Signum
+noSign = No
 
 -- t is one word and behind it the n words of s from `at` on xored with those from `by` on
 pub record Both (s : List ℕ) (at by n : ℕ) (t : List ℕ) : Type 0 where

@@ -3,14 +3,14 @@
 ghost use mathlib.Core.Path.{_≡_};
 ghost use mathlib.Core.Bool.{true};
 ghost use Prim.Native.Nat.{ℕ, _+_, _*_, _%_, _≤_, _<_};
-ghost use lib.ListN.{length};
+ghost use lib.ListN.{length, getD};
 ghost use lib.Bits.{bitAnd};
 ghost use Rattle.model.specs.Pauli.{Pauli, count, sign};
 ghost use Rattle.model.specs.Frame.{Rows, axis, kindY, paulis};
 ghost use Rattle.model.specs.Sketch.{Label, labels};
 ghost use Rattle.pauli.specs.Rows.{valueAt, answer};
 ghost use Rattle.frame.specs.Places.{Sized, IsRow, IsLabel, Held};
-ghost use Rattle.frame.specs.Axes.{Reaches, rowWords, either, axisOf, Both, kindOf, tagOf};
+ghost use Rattle.frame.specs.Axes.{Reaches, rowWords, either, axisOf, SignOrNone, noSign, Both, kindOf, tagOf};
 use pauli::rows::Signum;
 
 // ---- rows
@@ -41,7 +41,9 @@ pub fn axis_row(s: &[u64], n: usize, l: usize, of_x: bool, q: usize) -> &[u64]
 // The sign of a row of 2 l + 1 words, phase first.
 pub fn row_sign(row: &[u64]) -> Signum
     requires { ⌜ length (now row) % 2 ≡ 1 ⌝ }
-    ensures { λ r. ⌜ ((l : ℕ) (p : Pauli) → length (now (row .entry)) ≡ 2 * l + 1 → IsRow l (now (row .entry)) 0 p → r ≡ answer (sign p)) ⌝ }
+    ensures sign { λ r. ⌜ ((l : ℕ) (p : Pauli) → length (now (row .entry)) ≡ 2 * l + 1 → IsRow l (now (row .entry)) 0 p → r ≡ answer (sign p)) ⌝ }
+    ensures one { λ r. ⌜ SignOrNone r ⌝ }
+    ensures bad { λ r. ⌜ (4 ≤ getD (now (row .entry)) 0 0 → r ≡ noSign) ⌝ }
 {
     let phase = row[0];
     if phase >= 4 {

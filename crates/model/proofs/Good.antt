@@ -165,7 +165,7 @@ gate-fits n (Cz c t) h k = (inside-mem n c (c ∷ t ∷ []) h (inl refl), inside
 gate-fits n (Swap c t) h k = (inside-mem n c (c ∷ t ∷ []) h (inl refl), inside-mem n t (c ∷ t ∷ []) h (inr (inl refl)), two-differ c t k)
 gate-fits n (Cy c t) h k = (inside-mem n c (c ∷ t ∷ []) h (inl refl), inside-mem n t (c ∷ t ∷ []) h (inr (inl refl)), two-differ c t k)
 
-good-frame : (s : State) (f : Rows Pauli) (k : Rows Label) → Good s → Sound (s .given .n) f → Within (s .given .n) f → Follows (origin s) f k → Good (reframed f k s)
+pub good-frame : (s : State) (f : Rows Pauli) (k : Rows Label) → Good s → Sound (s .given .n) f → Within (s .given .n) f → Follows (origin s) f k → Good (reframed f k s)
 unfolding reframed listAt
 good-frame s f k g a b c = record {
   sound = a;
@@ -179,7 +179,7 @@ good-frame s f k g a b c = record {
   lists-ok = record { ok = g .lists-ok .ok };
 }
 
-good-record1 : (s : State) (e : Event) → Good s → EventOk (origin s) (s .given .n) e → e .live ≡ true → length (s .events) + 1 ≤ s .given .capacity → Good (record1 e s)
+pub good-record1 : (s : State) (e : Event) → Good s → EventOk (origin s) (s .given .n) e → e .live ≡ true → length (s .events) + 1 ≤ s .given .capacity → Good (record1 e s)
 unfolding record1
 good-record1 s e g k v h = record {
   sound = g .sound;
@@ -199,17 +199,17 @@ good-record1 s e g k v h = record {
         let j : i < length (s .events) = omega (arith, length-new (s .events) e) in
         rw (at-old (s .events) e i j) (g .each i j)
 
-abbrev AllOk : Rows Label → ℕ → List Event → Type 0
+abbrev pub AllOk : Rows Label → ℕ → List Event → Type 0
 AllOk o n [] = Unit {0}
 AllOk o n (e ∷ es) = EventOk o n e × (e .live ≡ true) × AllOk o n es
 
-good-recordAll : (es : List Event) (s : State) → Good s → AllOk (origin s) (s .given .n) es → length (s .events) + length es ≤ s .given .capacity → Good (recordAll es s)
+pub good-recordAll : (es : List Event) (s : State) → Good s → AllOk (origin s) (s .given .n) es → length (s .events) + length es ≤ s .given .capacity → Good (recordAll es s)
 unfolding recordAll record1
 good-recordAll [] s g k h = g
 good-recordAll (e ∷ es) s g k h =
     good-recordAll es (record1 e s) (good-record1 s e g (k .0) (k .1) (omega arith)) (k .2) (rw (length-new (s .events) e) (omega arith))
 
-good-kill : (s : State) (id : ℕ) → Good s → id < length (s .events) → Good (kill id s)
+pub good-kill : (s : State) (id : ℕ) → Good s → id < length (s .events) → Good (kill id s)
 unfolding kill killed gone
 good-kill s id g h = record {
   sound = g .sound;
@@ -236,7 +236,7 @@ good-kill s id g h = record {
     go i u (yes q) = rw (q, gone-at (s .events) id h) (dead-ok _ (g .each id h))
     go i u (no q) = rw (gone-other (s .events) id h i q) (g .each i u)
 
-good-clear : (s : State) → Good s → Good (clear s)
+pub good-clear : (s : State) → Good s → Good (clear s)
 unfolding clear
 good-clear s g = record {
   sound = g .sound;
@@ -252,7 +252,7 @@ good-clear s g = record {
 
 -- the events that calls record
 
-axis-ok : (s : State) (kind : Kind) (q tag : ℕ) → Good s → q < s .given .n → EventOk (origin s) (s .given .n) (rotationOf kind q tag s)
+pub axis-ok : (s : State) (kind : Kind) (q tag : ℕ) → Good s → q < s .given .n → EventOk (origin s) (s .given .n) (rotationOf kind q tag s)
 unfolding rotationOf
 axis-ok s kind q tag g h = record {
   small-x = b .x-small;
@@ -264,11 +264,11 @@ axis-ok s kind q tag g h = record {
     b : Small (s .given .n) (axis paulis kind q (s .frame))
     b = within-axis (s .given .n) kind q (s .frame) (g .within)
 
-blocker-ok : (o : Rows Label) (n : ℕ) (p : Pauli) → Small n p → EventOk o n (blockerOn p)
+pub blocker-ok : (o : Rows Label) (n : ℕ) (p : Pauli) → Small n p → EventOk o n (blockerOn p)
 unfolding blockerOn
 blocker-ok o n p b = record { small-x = b .x-small; small-z = b .z-small; labelled = tt; signed = tt }
 
-seven-ok : (o : Rows Label) (n : ℕ) (a b t : Pauli) → Small n a → Small n b → Small n t → AllOk o n (map blockerOn (seven a b t))
+pub seven-ok : (o : Rows Label) (n : ℕ) (a b t : Pauli) → Small n a → Small n b → Small n t → AllOk o n (map blockerOn (seven a b t))
 unfolding seven blockerOn
 seven-ok o n a b t ha hb ht = (
   blocker-ok o n a ha,

@@ -48,7 +48,7 @@ number-requires c κs = search needs
 expect-requires-2 : tie.Need-expect-requires-2
 expect-requires-2 c κs =
     let y = c .before .before .before .before .before .y-product in
-    eq-eqb _ 1 (c .number .ensures ∙ ap numberOf (c .before .row-sign .ensures 1 _ (y .ensures .0) (y .ensures .1 _ _ (c .before .before .before .before .before .before .before .before .before .fresh .ensures) .1)) ∙ case5-is)
+    eq-eqb _ 1 (c .number .ensures ∙ ap numberOf (c .before .row-sign .ensures .0 1 _ (y .ensures .0) (y .ensures .1 _ _ (c .before .before .before .before .before .before .before .before .before .fresh .ensures) .1)) ∙ case5-is)
 
 returns : tie.Need-returns
 returns c = search needs

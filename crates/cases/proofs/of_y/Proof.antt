@@ -30,7 +30,7 @@ returns c = λ f k held.
     let row = c .before .before .before .before .before .before .axis-row in
     let sign = c .before .row-sign in
     is-y (row .result .now) _ (row .ensures .1 f k held) (sign .result) (c .number .result) (c .before .before .before .before .if1 .taken) (c .before .before .if2 .taken)
-    (sign .ensures 1 _ (row .ensures .0) (row .ensures .1 f k held)) (c .number .ensures)
+    (sign .ensures .0 1 _ (row .ensures .0) (row .ensures .1 f k held)) (c .number .ensures)
 
 returns-2 : tie.Need-returns-2
 returns-2 c = λ f k held.

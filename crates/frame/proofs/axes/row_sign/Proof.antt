@@ -1,8 +1,9 @@
 -- `frame::axes::row_sign` meets its contract. Assumes nothing.
-use mathlib.Core.Path.{ap, _∙_}
+use mathlib.Core.Path.{refl, sym, ap, _∙_, subst}
 use Rattle.model.specs.Pauli.{Pauli, sign}
 use Rattle.pauli.specs.Rows.{answer}
-use Rattle.frame.proofs.AxisLaws.{row-behind}
+use Rattle.frame.proofs.AxisLaws.{row-behind, sign-or-none}
+use Rattle.frame.specs.Axes.{SignOrNone}
 use native.Mathlib.Omega.{arith}
 use borrow.Author.Needs.{needs}
 use Rattle.frame.proofs.axes.row_sign.Statement.{statement}
@@ -12,7 +13,7 @@ shared-slice-read-phase : tie.Need-shared-slice-read-phase
 shared-slice-read-phase c = search needs
 
 returns : tie.Need-returns
-returns c = λ l p e r. absurd (omega (arith, r .phase, r .small))
+returns c = ((λ l p e r. absurd (omega (arith, r .phase, r .small))), (tt, λ q. refl))
 
 sub-sign : tie.Need-sub-sign
 sub-sign c = search needs
@@ -27,9 +28,11 @@ sign-requires : tie.Need-sign-requires
 sign-requires c κs = search needs
 
 returns-2 : tie.Need-returns-2
-returns-2 c = λ l p e r.
-    let a = c .before .before .before .before .before .args in
-    c .sign .ensures ∙ ap (λ (v : Pauli). answer (sign v)) (row-behind l (a .row .now) p e r)
+returns-2 c =
+    let a = c .before .before .before .before .before .args in (
+      (λ l p e r. c .sign .ensures ∙ ap (λ (v : Pauli). answer (sign v)) (row-behind l (a .row .now) p e r)),
+      (subst SignOrNone (sym (c .sign .ensures)) (sign-or-none _), λ q. absurd (omega (arith, q))),
+    )
 
 pub row-sign-spec : {M : Type 1} → statement M
 row-sign-spec =

@@ -3,7 +3,7 @@ use mathlib.Core.Path.{refl}
 use Rattle.model.proofs.Members.{clash}
 use Rattle.history.specs.Sizes.{formOf}
 use Rattle.history.proofs.StayLaws.{counts-there}
-use Rattle.history.proofs.KillLaws.{kill-dying, kill-past, told-nothing, told-bad, told-live, told-dead, not-both, not-neither}
+use Rattle.history.proofs.KillLaws.{kill-dying, kill-past, told-nothing, told-bad, told-live, told-dead, not-both, not-neither, done-kept, bad-kept}
 use borrow.Author.Needs.{needs}
 use Rattle.history.proofs.kill.kill.Statement.{statement}
 use Rattle.history.proofs.kill.kill.Tie as tie
@@ -14,7 +14,7 @@ returns c =
       refl,
       (
         (λ m holds sane e. (refl, refl)),
-        λ m holds sane e. absurd (kill-past (m .events) (a .cap) (a .id) (holds .room) (c .if1 .taken) e),
+        ((λ m holds sane e. absurd (kill-past (m .events) (a .cap) (a .id) (holds .room) (c .if1 .taken) e)), λ e. refl),
       ),
     )
 
@@ -44,7 +44,7 @@ returns-2 c =
       refl,
       (
         (λ m holds sane e. (refl, refl)),
-        λ m holds sane e. absurd (not-both (t .0 .1 .1 .0) (told-live (m .events) (a .id) (r .result) (r .ensures .0 (formOf (a .form)) (a .n) m holds sane) (r .ensures .1 (formOf (a .form)) (a .n) m holds sane) (t .0 .0) (t .0 .1 .0) (t .0 .1 .1 .0) (t .1) e) (c .if2 .taken)),
+        ((λ m holds sane e. absurd (not-both (t .0 .1 .1 .0) (told-live (m .events) (a .id) (r .result) (r .ensures .0 (formOf (a .form)) (a .n) m holds sane) (r .ensures .1 (formOf (a .form)) (a .n) m holds sane) (t .0 .0) (t .0 .1 .0) (t .0 .1 .1 .0) (t .1) e) (c .if2 .taken))), λ e. refl),
       ),
     )
 
@@ -63,7 +63,7 @@ returns-3 c =
       k .ensures .0,
       (
         (λ m holds sane e. absurd (not-neither (t .0 .1 .1 .0) (told-dead (m .events) (a .id) (r .result) (r .ensures .0 (formOf (a .form)) (a .n) m holds sane) (r .ensures .1 (formOf (a .form)) (a .n) m holds sane) (t .0 .0) (t .0 .1 .0) (t .0 .1 .1 .0) (t .1) e) (c .before .before .before .before .before .if2 .left))),
-        λ m holds sane e. (refl, k .ensures .1 m holds sane (kill-dying (m .events) (a .id) e) .1),
+        ((λ m holds sane e. (refl, k .ensures .1 m holds sane (kill-dying (m .events) (a .id) e) .1)), λ e. absurd (done-kept e)),
       ),
     )
 
@@ -77,7 +77,7 @@ returns-4 c =
       refl,
       (
         (λ m holds sane e. (refl, refl)),
-        λ m holds sane e. absurd (told-nothing (m .events) (a .id) (r .result) (r .ensures .0 (formOf (a .form)) (a .n) m holds sane) (r .ensures .1 (formOf (a .form)) (a .n) m holds sane) (c .enum-told .given .1) e),
+        ((λ m holds sane e. absurd (told-nothing (m .events) (a .id) (r .result) (r .ensures .0 (formOf (a .form)) (a .n) m holds sane) (r .ensures .1 (formOf (a .form)) (a .n) m holds sane) (c .enum-told .given .1) e)), λ e. refl),
       ),
     )
 
@@ -91,7 +91,7 @@ returns-5 c =
       refl,
       (
         (λ m holds sane e. absurd (told-bad (m .events) (a .id) (r .result) (r .ensures .0 (formOf (a .form)) (a .n) m holds sane) (r .ensures .1 (formOf (a .form)) (a .n) m holds sane) (c .enum-told2 .given .1))),
-        λ m holds sane e. absurd (told-bad (m .events) (a .id) (r .result) (r .ensures .0 (formOf (a .form)) (a .n) m holds sane) (r .ensures .1 (formOf (a .form)) (a .n) m holds sane) (c .enum-told2 .given .1)),
+        ((λ m holds sane e. absurd (told-bad (m .events) (a .id) (r .result) (r .ensures .0 (formOf (a .form)) (a .n) m holds sane) (r .ensures .1 (formOf (a .form)) (a .n) m holds sane) (c .enum-told2 .given .1))), λ e. absurd (bad-kept e)),
       ),
     )
 
@@ -107,7 +107,7 @@ returns-6 c =
       k .ensures .0,
       (
         (λ m holds sane e. absurd (not-neither (t .0 .1 .1 .0) (told-dead (m .events) (a .id) (r .result) (r .ensures .0 (formOf (a .form)) (a .n) m holds sane) (r .ensures .1 (formOf (a .form)) (a .n) m holds sane) (t .0 .0) (t .0 .1 .0) (t .0 .1 .1 .0) (t .1) e) (c .before .before .before .before .before .if2 .left))),
-        λ m holds sane e. clash (k .result) (k .ensures .1 m holds sane (kill-dying (m .events) (a .id) e) .0) (c .if3 .left),
+        ((λ m holds sane e. clash (k .result) (k .ensures .1 m holds sane (kill-dying (m .events) (a .id) e) .0) (c .if3 .left)), λ e. absurd (bad-kept e)),
       ),
     )
 

@@ -1,0 +1,2 @@
+-- The definitions that the contracts of `gating` cite.
+pub mod Gates

@@ -1,0 +1,7 @@
+-- What the proofs of `marking` rest on.
+pub mod RowMarks
+mod StateMarks
+mod AxisMarks
+mod PutMarks
+mod MarkLaws
+mod EnrollLaws

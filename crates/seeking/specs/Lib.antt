@@ -1,0 +1,2 @@
+-- The definitions that the contracts of `seeking` cite.
+pub mod Sights

@@ -1,0 +1,137 @@
+// A look: the axis of a kind, read off the frames, and the search of `history` for it. It writes nothing. The axis x or z is a row of the frames,
+// lent in place; y is a product of two rows, in a row of its own.
+use frame::axes::Kind;
+use frame::axes::axis_row;
+use frame::axes::label;
+use frame::axes::row_sign;
+use frame::axes::y_product;
+use history::looks::Seen;
+use pauli::rows::Signum;
+use store::answers::Sight;
+use store::header::Checked;
+use store::header::Sizes;
+use store::header::all_sizes;
+ghost use mathlib.Core.Path.{_≡_};
+ghost use Prim.Native.Nat.{_+_, _*_, _≤_, _<_};
+ghost use lib.ListN.{length};
+ghost use Rattle.model.specs.Frame.{axis, kindY, paulis};
+ghost use Rattle.model.specs.Events.{State};
+ghost use Rattle.model.specs.Search.{look};
+ghost use Rattle.model.specs.Calls.{looked, callLook};
+ghost use Rattle.frame.specs.Places.{IsRow};
+ghost use Rattle.frame.specs.Axes.{kindOf};
+ghost use Rattle.store.specs.Stores.{Held};
+ghost use Rattle.store.specs.Checks.{Fit};
+ghost use Rattle.store.specs.Promises.{toldLook, Answers};
+ghost use Rattle.seeking.specs.Sights.{sightOf};
+
+// What the history saw, as the answer of a look.
+fn sight(seen: Seen) -> Sight
+    ensures { λ r. ⌜ toldLook r ≡ sightOf seen ⌝ }
+{
+    match seen {
+        Seen::Found { id, sign, steps } => Sight::Found {
+            id: id,
+            sign: sign,
+            steps: steps,
+        },
+        Seen::Free(steps) => Sight::Nothing(steps),
+        Seen::Blocked(steps) => Sight::Blocked(steps),
+        Seen::Exhausted(steps) => Sight::Out(steps),
+        Seen::Bad => Sight::Refused(9),
+    }
+}
+
+// The look for the axis of a kind, which is the row given, phase first.
+fn sought(s: &[u64], z: Sizes, kind: Kind, q: usize, row: &[u64]) -> Sight
+    requires { ⌜ Fit z (now s) × (q < z .n) × (length (now row) ≡ 2 * z .l + 1) ⌝ }
+    ensures { λ r. ⌜ ((m : State) → Held m (now (s .entry)) → IsRow (z .l) (now (row .entry)) 0 (axis paulis (kindOf kind) q (m .frame)) → toldLook r ≡ looked (look (kindOf kind) q m)) ⌝ }
+{
+    match row_sign(row) {
+        Signum::No => Sight::Refused(9),
+        Signum::Is(sign) => {
+            let at = z.at;
+            let end = z.end;
+            let form = z.form;
+            let tag = label(&s[14..at], z.n, z.l, kind, q);
+            sight(history::looks::look(
+                &s[at..end],
+                form,
+                z.n,
+                z.l,
+                z.cap,
+                &row[1..],
+                sign,
+                tag.high,
+                tag.low,
+                z.allowance,
+            ))
+        }
+    }
+}
+
+// The look for the axis y, whose row is written to `out`.
+fn sought_y(s: &[u64], z: Sizes, q: usize, out: &mut [u64]) -> Sight
+    requires { ⌜ Fit z (now s) × (q < z .n) × (length (now out) ≡ 2 * z .l + 1) ⌝ }
+    ensures { λ r. ⌜ ((m : State) → Held m (now (s .entry)) → toldLook r ≡ looked (look kindY q m)) ⌝ }
+{
+    let at = z.at;
+    if y_product(&s[14..at], z.n, z.l, q, out) {
+        return sought(s, z, Kind::Y, q, out);
+    }
+    Sight::Refused(9)
+}
+
+// The same with a row of its own: up to 192 qubits no large one is cleared.
+fn narrow_y(s: &[u64], z: Sizes, q: usize) -> Sight
+    requires { ⌜ Fit z (now s) × (q < z .n) × (z .l ≤ 3) ⌝ }
+    ensures { λ r. ⌜ ((m : State) → Held m (now (s .entry)) → toldLook r ≡ looked (look kindY q m)) ⌝ }
+{
+    let mut out = [0u64; 7];
+    let words = 2 * z.l + 1;
+    sought_y(s, z, q, &mut out[..words])
+}
+
+fn wide_y(s: &[u64], z: Sizes, q: usize) -> Sight
+    requires { ⌜ Fit z (now s) × (q < z .n) ⌝ }
+    ensures { λ r. ⌜ ((m : State) → Held m (now (s .entry)) → toldLook r ≡ looked (look kindY q m)) ⌝ }
+{
+    let mut out = [0u64; 725];
+    let words = 2 * z.l + 1;
+    sought_y(s, z, q, &mut out[..words])
+}
+
+// The look, by its kind.
+fn sought_kind(s: &[u64], z: Sizes, kind: Kind, q: usize) -> Sight
+    requires { ⌜ Fit z (now s) × (q < z .n) ⌝ }
+    ensures { λ r. ⌜ ((m : State) → Held m (now (s .entry)) → toldLook r ≡ looked (look (kindOf kind) q m)) ⌝ }
+{
+    let at = z.at;
+    match kind {
+        Kind::X => sought(s, z, kind, q, axis_row(&s[14..at], z.n, z.l, true, q)),
+        Kind::Y => {
+            if z.l <= 3 {
+                return narrow_y(s, z, q);
+            }
+            wide_y(s, z, q)
+        }
+        Kind::Z => sought(s, z, kind, q, axis_row(&s[14..at], z.n, z.l, false, q)),
+        Kind::P => sought(s, z, kind, q, axis_row(&s[14..at], z.n, z.l, false, q)),
+    }
+}
+
+// Looks for a partner of the rotation of a kind about qubit q.
+pub fn look(s: &[u64], kind: Kind, q: usize) -> Sight
+    ensures { λ r. ⌜ Answers (callLook (kindOf kind) q) (now (s .entry)) (toldLook r) ⌝ }
+{
+    match all_sizes(s) {
+        Checked::Short => Sight::Refused(3),
+        Checked::Bad => Sight::Refused(9),
+        Checked::Ready(z) => {
+            if z.n <= q {
+                return Sight::Refused(4);
+            }
+            sought_kind(s, z, kind, q)
+        }
+    }
+}
