@@ -14,6 +14,10 @@ use lib.Seq.{getD-set-same, getD-set-other, getD-take, getD-drop, drop-drop, tak
 use Rattle.model.specs.Pauli.{Pauli, count, quarter, signOf, sign, times, shift}
 use Rattle.model.specs.Frame.{Rows, xAt, zAt, axis, kindY, paulis}
 use Rattle.model.specs.Sketch.{Label, labelXor, labels}
+use Rattle.model.specs.Demands.{IsSign}
+use lib.IntN.{ℤ}
+use Rattle.pauli.specs.declared.rows.Signum.{Signum}
+use Rattle.pauli.specs.declared.rows.Signum.the-variants.{Is}
 use Rattle.pauli.specs.Rows.{value, valueAt, xOf, zOf, ofRow, answer}
 use Rattle.pauli.proofs.Words.{rest-part, rest-length, x-plane, z-plane}
 use Rattle.pauli.proofs.RowLaws.{value-part, value-xor}
@@ -275,3 +279,7 @@ sign-or-none p = go (quarter p)
     go (suc zero) = tt
     go (suc (suc zero)) = inr refl
     go (suc (suc (suc q))) = tt
+
+-- where a sign is told it is one, whatever the words are
+pub is-signed : (r : Signum) (g : ℤ) → SignOrNone r → r ≡ Is g → IsSign g
+is-signed r g h e = rw e at h

@@ -19,19 +19,11 @@ use Rattle.store.specs.Checks.{Framing}
 use Rattle.store.proofs.Splice.{splice, part-length, splice-length}
 use Rattle.store.proofs.SizeLaws.{stored-accepted, framing-planes, frame-small, own-frame}
 use Rattle.store.proofs.StoreLaws.{frames-at, reframed-to}
-use Rattle.store.proofs.AnswerLaws.{answer-turn, answer-qubits, answer-last, last-named}
+use Rattle.store.proofs.AnswerLaws.{answer-turn, numbered, qubit-small}
 use Rattle.store.proofs.MeetLaws.{refuse-meets, nine-meets, accept-meets}
 use Rattle.gating.specs.Gates.{turnNumber}
 
 -- ---- the numbers
-
--- a call that records nothing and names no event, whose turn is known: its qubits' number
-numbered : (m : State) (s : List ℕ) (k : ℕ) (qs : List ℕ) → Stored m s → turnKnown k ≡ true → answer m (length s) k qs 0 false ≡ qubitNumber (m .given .n) qs
-numbered m s k qs h e = go (qubitNumber (m .given .n) qs) refl
-  where
-    go : (a : ℕ) → qubitNumber (m .given .n) qs ≡ a → answer m (length s) k qs 0 false ≡ qubitNumber (m .given .n) qs
-    go zero d = answer-last m (length s) k qs 0 false (h .long) e d ∙ last-named m 0 false (omega (arith, h .history .room)) ∙ sym d
-    go (suc a) d = answer-qubits m (length s) k qs 0 false (h .long) e a d ∙ sym d
 
 pub gate-number : (n l : ℕ) (s : List ℕ) (g : Gate) → Framing n l s → (m : State) → Stored m s → answerTo (callGate g) (length s) m ≡ qubitNumber n (gateQubits g)
 unfolding answerTo turnKnown
@@ -64,9 +56,9 @@ module _ (n l : ℕ) (s : List ℕ) (f : Framing n l s) where
 -- ---- each way to end
 
 module _ (c : Call) (n l : ℕ) (s : List ℕ) (f : Framing n l s) (N : ℕ) (numbers : (m : State) → Stored m s → answerTo c (length s) m ≡ N) where
-  pub framed-refused : (a : ℕ) → a ≡ N → (a ≡ 0 → ⊥) → Meets c s (refused a) s
-  framed-refused zero e d = absurd (d refl)
-  framed-refused (suc a) e d = refuse-meets c s (f .enough) a (λ m h. numbers m (h .stored) ∙ sym e)
+  pub framed-refused : N ≤ 8 → (a : ℕ) → a ≡ N → (a ≡ 0 → ⊥) → Meets c s (refused a) s
+  framed-refused few zero e d = absurd (d refl)
+  framed-refused few (suc a) e d = refuse-meets c s (f .enough) a (omega (arith, few, e)) (λ m h. numbers m (h .stored) ∙ sym e)
 
   module _ (F : (A : Type 0) → Ops A → Rows A → Rows A) (k : ℕ) (size : k ≡ frameSize n l) (ys : List ℕ) (ok : Bool) (same : length ys ≡ length (part 14 k s))
       (does : Does n l F (part 14 k s) ok ys) where
@@ -115,3 +107,15 @@ unfolding replyOf effect
 turn-done kind t q n l s f e k size ys ok same does =
     framed-done (callTurn kind t q) n l s f (turnNumber n t q) (turn-number n l s kind t q f) (λ (A : Type 0) (o : Ops A). turn o kind t q) k size ys ok same does e
     (λ m. refl) (λ m. refl)
+
+-- no refusal of a gate or a turn has a number above 8
+pub gate-small : (n : ℕ) (g : Gate) → qubitNumber n (gateQubits g) ≤ 8
+gate-small n g = omega (arith, qubit-small n (gateQubits g))
+
+pub turn-small : (n k q : ℕ) → turnNumber n k q ≤ 8
+unfolding turnNumber
+turn-small n k q = go (turnKnown k)
+  where
+    go : (b : Bool) → cond b (qubitNumber n (q ∷ [])) 8 ≤ 8
+    go true = omega (arith, qubit-small n (q ∷ []))
+    go false = omega arith

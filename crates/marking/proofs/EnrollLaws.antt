@@ -19,7 +19,7 @@ use Rattle.store.specs.Checks.{Fit}
 use Rattle.store.proofs.Splice.{part-at}
 use Rattle.store.proofs.SizeLaws.{Own, own}
 use Rattle.store.proofs.StoreLaws.{history-at}
-use Rattle.store.proofs.AnswerLaws.{lastNumber, answer-qubits, answer-last, last-full, last-named}
+use Rattle.store.proofs.AnswerLaws.{qubit-small, lastNumber, answer-qubits, answer-last, last-full, last-named}
 use Rattle.store.proofs.MeetLaws.{reached-good, refuse-meets, nine-meets, accept-meets}
 use Rattle.marking.specs.Marks.{callOf, qubitsOf, recordsOf, eventsOf, Records}
 use Rattle.marking.specs.declared.events.Mark.{Mark}
@@ -88,7 +88,7 @@ module _ (z : Sizes) (s : List ℕ) (mark : Mark) (f : Fit z s) where
   pub qubits-refused : (k : ℕ) → k ≡ qubitNumber (z .n) (qubitsOf mark) → k ≢ 0 → Meets (callOf mark) s (refused k) s
   qubits-refused zero e d = absurd (d refl)
   qubits-refused (suc k) e d =
-      refuse-meets (callOf mark) s (f .framing .enough) k (λ m h.
+      refuse-meets (callOf mark) s (f .framing .enough) k (omega (arith, e, qubit-small (z .n) (qubitsOf mark))) (λ m h.
       mark-answer mark (length s) m
       ∙ answer-qubits m (length s) 0 (qubitsOf mark) (recordsOf mark) false (h .stored .long) no-turn k (own-number m (h .stored) (suc k) e))
 
@@ -106,7 +106,7 @@ module _ (z : Sizes) (s : List ℕ) (mark : Mark) (f : Fit z s) where
     -- "6: the call records k events and events + k > E"
     pub full-refused : z .cap < getD s (z .at) 0 + recordsOf mark → Meets (callOf mark) s (refused 6) s
     full-refused l =
-        refuse-meets (callOf mark) s (f .framing .enough) 5 (λ m h.
+        refuse-meets (callOf mark) s (f .framing .enough) 5 (omega arith) (λ m h.
         rest m (h .stored)
         ∙ last-full m (recordsOf mark) false (omega (arith, l, event-word z s f m (h .stored), own z m s f (h .stored) .capacity)))
 

@@ -1,14 +1,12 @@
 -- Laws of records on a store: the parts that are lent for them, one record, and several in a row. Assumes nothing.
-use mathlib.Core.Path.{_≡_, refl, sym, ap, ap₂, _∙_, subst}
+use mathlib.Core.Path.{_≡_, refl, sym, ap, _∙_, subst}
 use mathlib.Core.Logic.{inl, inr}
 use mathlib.Core.Bool.{Bool, true, false, not, true≢false}
 use mathlib.Core.List.{List, [], _∷_, map}
 use Prim.Native.Nat.{ℕ, zero, suc, _+_, _-_, _*_, _≤_, _<_}
 use native.Mathlib.Omega.{arith}
 use lib.IntN.{ℤ, pos, negsuc}
-use mir.Val.{ofZ}
-use mir.Syntax.{w8}
-use lib.ListN.{length, getD, take, drop, length-drop}
+use lib.ListN.{length, getD, take, drop}
 use lib.Seq.{length-take-le, take-all}
 use Rattle.model.specs.Pauli.{Pauli, times, sign}
 use Rattle.model.specs.Frame.{Rows, axis, zAt, paulis}
@@ -27,9 +25,8 @@ use Rattle.frame.specs.Places.{IsRow}
 use Rattle.frame.specs.Axes.{axisOf, either, kindOf, tagOf}
 use Rattle.frame.specs.declared.axes.Kind.{Kind}
 use Rattle.frame.specs.declared.axes.Tag.{Tag}
-use Rattle.history.specs.Words.{historyRoom, Holds, Sane, Becomes}
+use Rattle.history.specs.Words.{Holds, Sane, Becomes}
 use Rattle.history.specs.Sizes.{formOf}
-use Rattle.history.specs.Sizes as history
 use Rattle.history.specs.Recordings.{numbered, Recorded}
 use Rattle.history.specs.declared.events.Body.{Body}
 use Rattle.history.specs.declared.events.Body.the-variants.{Rotation, Blocker}
@@ -37,42 +34,17 @@ use Rattle.history.specs.declared.record.Kept.{Kept}
 use Rattle.history.specs.declared.record.Kept.the-variants as kept
 use Rattle.history.proofs.Theorems.{good-sane}
 use Rattle.store.specs.declared.header.Sizes.{Sizes}
-use Rattle.store.specs.Stores.{part, frameSize, Stored, StoredTo}
+use Rattle.store.specs.Stores.{Stored, StoredTo}
 use Rattle.store.specs.Checks.{Fit}
 use Rattle.store.proofs.Splice.{splice, splice-length, splice-out}
-use Rattle.store.proofs.SizeLaws.{Own, own, fit-sized}
-use Rattle.store.proofs.StoreLaws.{frames-at, history-at, historyPart, recorded-to, stored-then}
+use Rattle.store.proofs.SizeLaws.{Own, own}
+use Rattle.store.proofs.StoreLaws.{history-at, recorded-to, stored-then}
+use Rattle.store.proofs.LentLaws.{room-is, lent-is, frames-held}
 use Rattle.marking.specs.Axes.{Sets}
 use Rattle.marking.specs.Marks.{axisWords, rotationAbout, blockerAt, productAt, products, Puts, Records}
 use Rattle.marking.proofs.RowMarks.{row-sets}
 use Rattle.marking.proofs.AxisMarks.{blocker-recorded, rotation-recorded}
 use Rattle.marking.proofs.StateMarks.{record-more, record-given, record-frame, record-count, good-some}
-
--- ---- the parts
-
-module _ (z : Sizes) (s : List ℕ) (f : Fit z s) where
-  -- `&s[14..z.at]` is the frames' part
-  pub lent-frames : take (z .at - 14) (drop 14 s) ≡ part 14 (frameSize (z .n) (z .l)) s
-  lent-frames =
-      let e : z .at - 14 ≡ frameSize (z .n) (z .l) = omega (arith, f .begins) in
-      ap (λ (k : ℕ). take k (drop 14 s)) e
-
-  pub lent-held : (m : State) → Stored m s → frames.Held (z .n) (z .l) (m .frame) (m .sketch) (take (z .at - 14) (drop 14 s))
-  lent-held m h =
-      let o : Own z m = own z m s f h in
-      subst (λ (t : List ℕ). frames.Held (z .n) (z .l) (m .frame) (m .sketch) t) (sym lent-frames) (frames-at (z .n) (z .l) m s (o .qubits) (o .planes) h)
-
-  -- `&mut s[z.at..z.end]` is the history's part
-  room-is : z .end - z .at ≡ historyRoom (formOf (z .form)) (z .n) (z .cap) (z .l)
-  room-is = omega (arith, f .begins, f .ends)
-
-  pub lent-history : take (z .end - z .at) (drop (z .at) s) ≡ historyPart (formOf (z .form)) (z .n) (z .cap) (z .l) s
-  lent-history = ap₂ (λ (k a : ℕ). take k (drop a s)) room-is (f .begins)
-
-  pub lent-room : history.Sized (formOf (z .form)) (z .n) (z .cap) (z .l) (take (z .end - z .at) (drop (z .at) s))
-  lent-room =
-      fit-sized z s (take (z .end - z .at) (drop (z .at) s)) f
-      (length-take-le (z .end - z .at) (drop (z .at) s) (omega (arith, length-drop (z .at) s, f .begins, f .ends, f .fits)) ∙ room-is)
 
 -- a test that was false
 pub off : (b : Bool) → not b ≡ true → b ≡ false
@@ -80,10 +52,6 @@ off true e = sym e
 off false e = refl
 
 -- ---- one record
-
--- what came back is as long as what was lent
-pub back-length : (z : Sizes) (s ys : List ℕ) → Fit z s → length ys ≡ length (take (z .end - z .at) (drop (z .at) s)) → length ys ≡ z .end - z .at
-back-length z s ys f e = e ∙ length-take-le (z .end - z .at) (drop (z .at) s) (omega (arith, length-drop (z .at) s, f .begins, f .ends, f .fits))
 
 -- what is lent to `record` comes back with the header and the sizes as they were
 pub put-fit : (z : Sizes) (s ys : List ℕ) → Fit z s → length ys ≡ z .end - z .at → Fit z (splice (z .at) (z .end - z .at) s ys)
@@ -125,14 +93,14 @@ module _ (z : Sizes) (s ys row : List ℕ) (body : Body) (r : Kept) (f : Fit z s
   put-to m e h g room new =
       let o : Own z m = own z m s f h in
       let held : Holds (formOf (z .form)) (z .n) (z .cap) (z .l) m (take (z .end - z .at) (drop (z .at) s))
-      = subst (λ (t : List ℕ). Holds (formOf (z .form)) (z .n) (z .cap) (z .l) m t) (sym (lent-history z s f))
+      = subst (λ (t : List ℕ). Holds (formOf (z .form)) (z .n) (z .cap) (z .l) m t) (sym (lent-is z s f))
       (history-at (formOf (z .form)) (z .n) (z .cap) (z .l) m s (o .form) (o .qubits) (o .capacity) (o .planes) h) in
       let w = done m e held (good-sane m g) (omega (arith, o .capacity)) (subst (λ (n : ℕ). Recorded n (axisWords row) body e) (o .qubits) new) in (
         w .0,
         subst (λ (a : ℕ). StoredTo (record1 e m) s (splice a (z .end - z .at) s ys)) (sym (f .begins))
             (recorded-to (formOf (z .form)) (z .n) (z .cap) (z .l) m s ys (z .end - z .at) (o .form) (o .qubits) (o .capacity) (o .planes) e h (room-is z s f)
             (omega (arith, f .ends, f .fits))
-            (subst (λ (t : List ℕ). Becomes (formOf (z .form)) (z .n) (z .cap) (z .l) (record1 e m) t ys) (lent-history z s f) (w .1))),
+            (subst (λ (t : List ℕ). Becomes (formOf (z .form)) (z .n) (z .cap) (z .l) (record1 e m) t ys) (lent-is z s f) (w .1))),
       )
 
   pub put-kept : Puts row body s true (splice (z .at) (z .end - z .at) s ys)
@@ -163,19 +131,8 @@ small-seven n a b t (suc (suc (suc (suc (suc (suc zero)))))) h ha hb ht = small-
 small-seven n a b t (suc (suc (suc (suc (suc (suc (suc i))))))) h ha hb ht = absurd (omega arith)
 
 -- a sign as a record wants it
-pub plus-sign : (g : ℤ) → ofZ w8 g ≡ 1 → IsSign g → pos 1 ≡ g
-plus-sign g e (inl s) = sym s
-plus-sign g e (inr s) = let f : ofZ w8 (negsuc 0) ≡ 1 = ap (ofZ w8) (sym s) ∙ e in absurd (omega arith)
-
-pub minus-sign : (g : ℤ) → (ofZ w8 g ≡ 1 → ⊥) → IsSign g → negsuc 0 ≡ g
-minus-sign g d (inl s) = absurd (d (ap (ofZ w8) s))
-minus-sign g d (inr s) = sym s
-
 pub bits-sign : (g : ℤ) → IsSign g → IsSign (bits8 g)
 bits-sign g h = subst IsSign (sym (bits8-sign g h)) h
-
-pub kept-sign : (g h : ℤ) → IsSign h → (IsSign (bits8 g) → h ≡ bits8 g) → IsSign g → bits8 h ≡ g
-kept-sign g h ok same s = bits8-sign h ok ∙ same (bits-sign g s) ∙ bits8-sign g s
 
 -- a sign that is told is the sign
 is-sign : (a g : ℤ) → IsSign a → Is g ≡ answer a → g ≡ a
@@ -201,7 +158,7 @@ module _ (z : Sizes) (s row : List ℕ) (f : Fit z s) (long : length row ≡ 2 *
       → Puts row Blocker s r t → Records (blockerAt of-x q) s r t
   unfolding blockerAt
   row-records t r of-x q row-is puts =
-      block-records t r (λ m. axisOf of-x (m .frame) q) (λ m h. row-sets (z .l) row (axisOf of-x (m .frame) q) (row-is (m .frame) (m .sketch) (lent-held z s f m h)))
+      block-records t r (λ m. axisOf of-x (m .frame) q) (λ m h. row-sets (z .l) row (axisOf of-x (m .frame) q) (row-is (m .frame) (m .sketch) (frames-held z s f m h)))
       (λ m g. small-axis m g of-x q) puts
 
   -- one of the seven products
@@ -212,7 +169,7 @@ module _ (z : Sizes) (s row : List ℕ) (f : Fit z s) (long : length row ≡ 2 *
   unfolding productAt
   product-records v r of-x a b t i hi sets puts =
       block-records v r (λ m. getD (seven (zAt paulis (m .frame) a) (zAt paulis (m .frame) b) (axisOf of-x (m .frame) t)) i (paulis .unit))
-      (λ m h. sets (m .frame) (m .sketch) (lent-held z s f m h))
+      (λ m h. sets (m .frame) (m .sketch) (frames-held z s f m h))
       (λ m g. small-seven (m .given .n) _ _ _ i hi (g .within .all-z a) (g .within .all-z b) (small-axis m g of-x t)) puts
 
   -- a rotation, by what the code was told of its axis, sign and label
@@ -221,7 +178,7 @@ module _ (z : Sizes) (s row : List ℕ) (f : Fit z s) (long : length row ≡ 2 *
       → (b ≡ true) × IsRow (z .l) row 0 (axis paulis (kindOf kind) q v))
       (sign-is : (l : ℕ) (p : Pauli) → length row ≡ 2 * l + 1 → IsRow l row 0 p → sgn ≡ answer (sign p)) where
     told-row : (m : State) → Stored m s → (b ≡ true) × IsRow (z .l) row 0 (axis paulis (kindOf kind) q (m .frame))
-    told-row m h = row-is (m .frame) (m .sketch) (lent-held z s f m h)
+    told-row m h = row-is (m .frame) (m .sketch) (frames-held z s f m h)
 
     rotation-ok : (m : State) → Stored m s → Good m → EventOk (origin m) (m .given .n) (rotationOf (kindOf kind) q tag m)
     rotation-ok m h g = axis-ok m (kindOf kind) q tag g (omega (arith, inside, own z m s f h .qubits))
@@ -242,7 +199,7 @@ module _ (z : Sizes) (s row : List ℕ) (f : Fit z s) (long : length row ≡ 2 *
         let eg : g ≡ sign (axis paulis (kindOf kind) q (m .frame)) = is-sign (sign (axis paulis (kindOf kind) q (m .frame))) g ok (sym e ∙ told-sign m held) in
         puts m (rotationOf (kindOf kind) q tag m) held good (omega arith)
         (rotation-recorded (m .given .n) (z .l) q tag row kind m (origin m) h u long (told-row m held .1) (same (subst IsSign (sym eg) ok) ∙ eg)
-        (label-is (m .frame) (m .sketch) (lent-held z s f m held)) (rotation-ok m held good))
+        (label-is (m .frame) (m .sketch) (frames-held z s f m held)) (rotation-ok m held good))
 
     pub unsigned-records : (t : List ℕ) → sgn ≡ No → Records (rotationAbout kind q tag) s false t
     unsigned-records t e m held good room = absurd (some-sign (sign (axis paulis (kindOf kind) q (m .frame))) (sign-ok m held good) (sym e ∙ told-sign m held))
@@ -251,7 +208,7 @@ module _ (z : Sizes) (s row : List ℕ) (f : Fit z s) (long : length row ≡ 2 *
       → ((v : Rows Pauli) (k : Rows Label) → frames.Held (z .n) (z .l) v k (take (z .at - 14) (drop 14 s))
       → (b ≡ true) × IsRow (z .l) row 0 (axis paulis (kindOf kind) q v))
       → Records (rotationAbout kind q tag) s false t
-  no-axis-records kind q tag b t e row-is m held good room = absurd (true≢false (sym (row-is (m .frame) (m .sketch) (lent-held z s f m held) .0) ∙ e))
+  no-axis-records kind q tag b t e row-is m held good room = absurd (true≢false (sym (row-is (m .frame) (m .sketch) (frames-held z s f m held) .0) ∙ e))
 
 -- ---- several records in a row
 

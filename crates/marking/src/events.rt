@@ -12,10 +12,8 @@ use pauli::rows::Signum;
 use store::header::Sizes;
 ghost use mathlib.Core.Path.{_≡_};
 ghost use mathlib.Core.Bool.{true};
-ghost use mathlib.Core.List.{[], _∷_};
-ghost use Prim.Native.Nat.{_+_, _*_, _≤_, _<_};
+ghost use Prim.Native.Nat.{_+_, _*_, _<_};
 ghost use lib.ListN.{length};
-ghost use Rattle.model.specs.Demands.{IsSign};
 ghost use Rattle.history.specs.Recordings.{SignedBody};
 ghost use Rattle.store.specs.Promises.{qubitNumber};
 ghost use Rattle.store.specs.Checks.{Fit};
@@ -44,17 +42,6 @@ fn put(s: &mut [u64], z: Sizes, row: &[u64], body: Body) -> bool
     }
 }
 
-// A sign as a record wants it, whatever the number is.
-fn either_sign(g: i8) -> i8
-    ensures sign { λ r. ⌜ IsSign r ⌝ }
-    ensures same { λ r. ⌜ (IsSign g → r ≡ g) ⌝ }
-{
-    if g == 1 {
-        return 1;
-    }
-    -1
-}
-
 // Records a rotation.
 fn rotate(s: &mut [u64], z: Sizes, kind: Kind, q: usize, tag: u32, out: &mut [u64]) -> bool
     requires { ⌜ Fit z (now s) × (length (now out) ≡ 2 * z .l + 1) × (q < z .n) ⌝ }
@@ -74,7 +61,7 @@ fn rotate(s: &mut [u64], z: Sizes, kind: Kind, q: usize, tag: u32, out: &mut [u6
             out,
             Body::Rotation {
                 tag: tag,
-                sign: either_sign(g),
+                sign: g,
                 high: tagged.high,
                 low: tagged.low,
             },

@@ -1,23 +1,21 @@
 -- Laws of a store that is lent shorter or longer than it was opened: what it holds stands below its length at the opening. Assumes nothing.
-use mathlib.Core.Path.{_≡_, refl, sym, ap, _∙_, subst}
-use mathlib.Core.Logic.{_≢_, inl, inr}
+use mathlib.Core.Path.{_≡_, refl, sym, _∙_, subst}
+use mathlib.Core.Logic.{_≢_}
 use mathlib.Core.Bool.{Bool, true, false, true≢false}
 use mathlib.Core.List.{List, [], _∷_, _++_}
-use Prim.Native.Nat.{ℕ, suc, _+_, _-_, _≤_, _<_}
+use Prim.Native.Nat.{ℕ, _+_, _-_, _≤_, _<_}
 use native.Mathlib.Omega.{arith}
-use native.Mathlib.Decide.{decLt}
-use lib.ListN.{length, getD, take, drop, length-append, List·getD-append}
+use lib.ListN.{length, getD, take, length-append, List·getD-append}
 use lib.Seq.{length-take-le, getD-take, ext-getD}
-use lib.Dec.{eqb, ltb, leb}
 use borrow.Author.Tests.{lt-ltb}
-use Rattle.model.specs.Events.{Opening, State, plane}
+use Rattle.model.specs.Events.{State, plane}
 use Rattle.model.specs.Calls.{Call, callOpen, callGate, callTurn, callRecord, callMeasure, callReset, callCcx, callCcz, callKill, callRead, callClear, callLook, answer, answerTo}
 use Rattle.model.specs.Demands.{isOpening}
 use Rattle.frame.specs.Places as frames
 use Rattle.history.specs.Words.{historyRoom, Holds}
-use Rattle.store.specs.Stores.{part, frameSize, historyPlace, Header, Stored}
+use Rattle.store.specs.Stores.{part, frameSize, historyPlace, Stored}
 use Rattle.store.proofs.Splice.{part-length, part-at}
-use Rattle.store.proofs.SizeLaws.{Accepted, stored-accepted}
+use Rattle.store.proofs.SizeLaws.{stored-accepted}
 
 -- two slices of which the one is as the other below w
 pub record AsBelow (w : ℕ) (s t : List ℕ) : Type 0 where

@@ -1,35 +1,35 @@
 -- The theorems about all calls (docs/PROMISES.md). A call is what its contract says of it (`Step` of specs/Runs.antt): the functions of src/calls.rt are
 -- proved to meet these contracts. Assumes nothing.
 use mathlib.Core.Path.{_≡_, refl, sym, ap, ap₂, _∙_, subst}
-use mathlib.Core.Logic.{_≢_, _↔_}
+use mathlib.Core.Logic.{_≢_, inl, inr, ⊎-elim}
 use mathlib.Core.Bool.{Bool, true, false, cond, not, _||_, true≢false}
 use mathlib.Core.List.{List, [], _∷_, _++_}
-use Prim.Native.Nat.{ℕ, suc, _+_, _*_, _^_, _≤_, _<_}
+use Prim.Native.Nat.{ℕ, _+_, _*_, _^_, _≤_, _<_}
 use native.Mathlib.Omega.{arith}
 use native.Mathlib.Decide.{ℕ-discrete, decLt}
-use lib.IntN.{ℤ}
-use lib.ListN.{length, getD, take, drop, take-append-drop}
+use lib.ListN.{length, getD, take, drop, take-append-drop, List·getD-eq-default}
 use lib.Seq.{length-take-le, getD-take}
 use lib.Dec.{eqb, ltb, leb}
 use borrow.Author.Tests.{eq-eqb, ne-eqb, eqb-true}
 use Rattle.model.specs.Frame.{Kind, axis, paulis}
-use Rattle.model.specs.Events.{Form, Opening, State, words, plane, touches, eventAt, liveAt, dead, some}
+use Rattle.model.specs.Events.{Form, Opening, State, words, plane, dead, keep, some}
 use Rattle.model.specs.Search.{Look, found, none, blocked, out, look, listAt}
 use Rattle.model.specs.Store.{need, listCount}
-use Rattle.model.specs.Calls.{Call, callOpen, callGate, callTurn, callRecord, callMeasure, callReset, callCcx, callCcz, callKill, callRead, callClear, callLook, Lent, tooWide, openNumber, openAnswer, opened, opening, answer, answerTo, twice, Reply, refused, accepted, recorded, says, looked, replyOf, reply, effect, call, calls, replies}
-use Rattle.model.specs.Demands.{Share, occurs, Listed, NotOut, Says, SameReplies, isOpening}
+use Rattle.model.specs.Calls.{Call, callOpen, callGate, callTurn, callRecord, callMeasure, callReset, callCcx, callCcz, callKill, callRead, callClear, callLook, Lent, tooWide, openNumber, openAnswer, opened, opening, answer, answerTo, twice, Reply, refused, accepted, says, looked, replyOf, reply, effect, call, calls, replies}
+use Rattle.model.specs.Demands.{Mem, Share, occurs, Listed, NotOut, Says, SameReplies, isOpening}
 use Rattle.model.proofs.Good.{Good, good-look}
 use Rattle.model.proofs.Kept.{listed}
 use Rattle.model.proofs.Exact.{exact}
 use Rattle.model.proofs.Enough.{never-out}
 use Rattle.model.proofs.Theorems.{refusal-changes-nothing, look-changes-nothing, read-changes-nothing, two-openings}
 use Rattle.history.proofs.Theorems.{lists-in-words}
-use Rattle.store.specs.Stores.{part, historyPlace, Stored, Reached, Held, HeldTo}
+use Rattle.store.specs.Stores.{Held, HeldTo}
 use Rattle.store.specs.Promises.{number, turnKnown, Answers, Meets, Opens}
-use Rattle.store.proofs.SizeLaws.{stored-accepted, single-in}
-use Rattle.store.proofs.AnswerLaws.{answer-last, last-named}
+use Rattle.store.specs.Checks.{TooShort}
+use Rattle.store.proofs.SizeLaws.{single-in}
+use Rattle.store.proofs.AnswerLaws.{numbered}
 use Rattle.store.proofs.MeetLaws.{reached-good}
-use Rattle.partner.specs.Runs.{Step, Runs, Since, Fits64, listOf, RanOut, Names, DemandThree}
+use Rattle.partner.specs.Runs.{Step, Runs, Since, Fits64, listOf, DemandThree}
 use Rattle.partner.proofs.Lending.{stored-below, prefix-below, more-below, short-three}
 use Rattle.partner.proofs.OneStore.{held-to-one}
 
@@ -261,15 +261,35 @@ reply-number c w m = go (eqb (answerTo c w m) 0) refl
 pub never-nine : (c : Call) (m : State) (s : List ℕ) (r : Reply) (t : List ℕ) → isOpening c ≡ false → Held m s → Step c s r t → number r ≤ 8
 never-nine c m s r t e h p = omega (arith, ap number (step-meets c s r t e p .answers .meaning m h), reply-number c (length s) m, small-number c (length s) m)
 
+-- and so of every reply since an opening, later openings and slices lent too short included
+replies-small : (cs : List Lent) (m : State) (r : Reply) → Mem r (replies cs m) → number r ≤ 8
+unfolding replies
+replies-small [] m r h = absurd h
+replies-small (c ∷ cs) m r (inl e) = omega (arith, ap number e, reply-number (c .call) (c .store) m, small-number (c .call) (c .store) m)
+replies-small (c ∷ cs) m r (inr h) = replies-small cs (call (c .call) (c .store) m) r h
+
+pub since-never-nine : (o : Opening) (cs : List Lent) (rs : List Reply) (e : List ℕ) → Since o cs rs e → (r : Reply) → Mem r rs → number r ≤ 8
+since-never-nine o cs rs e p r h = replies-small cs (opened o) r (subst (λ (x : List Reply). Mem r x) (since-computes o cs rs e p .1 .says) h)
+
 -- ---- uniqueness
 
--- "Each public function's contract determines its answer and every lent word afterwards": two ends of a call on a store that our calls have left are equal
+-- "Each public function's contract determines its answer and every lent word afterwards": two ends of a call on a store that our calls have left are equal;
+-- where it is lent too short, `short-exit` says what they are
 pub one-exit : (c : Call) (m : State) (s : List ℕ) (r r′ : Reply) (t t′ : List ℕ) → isOpening c ≡ false → Held m s → Fits64 t → Fits64 t′ → Step c s r t → Step c s r′ t′
     → (r ≡ r′) × (t ≡ t′)
 one-exit c m s r r′ t t′ e h f f′ p p′ =
     let a = step-meets c s r t e p in
     let b = step-meets c s r′ t′ e p′ in
     (a .answers .meaning m h ∙ sym (b .answers .meaning m h), held-to-one (call c (length s) m) s t t′ f f′ (a .becomes m h) (b .becomes m h))
+
+-- a slice that is too short, whatever its words are: 3, and every word as it was
+pub short-exit : (c : Call) (s : List ℕ) (r : Reply) (t : List ℕ) → isOpening c ≡ false → TooShort s → Step c s r t → (r ≡ refused 3) × (t ≡ s)
+unfolding number
+short-exit c s r t e short p =
+    let a = step-meets c s r t e p in
+    let three : r ≡ refused 3 = ⊎-elim (λ (q : length s < 14). a .answers .headless q) (λ (q : length s < getD s 0 0). a .answers .shorter q) short in
+    let k : number r ≡ 3 = ap number three in
+    (three, a .untouched (omega (arith, k)) (omega (arith, k)))
 
 -- and of an opening, on any words
 pub one-opening : (o : Opening) (s : List ℕ) (r r′ : Reply) (t t′ : List ℕ) → Fits64 t → Fits64 t′ → Opens o s r t → Opens o s r′ t′ → (r ≡ r′) × (t ≡ t′)
@@ -285,8 +305,8 @@ one-opening o s r r′ t t′ f f′ a b = (a .answer ∙ sym (b .answer), go (�
 look-reply : (kind : Kind) (q : ℕ) (m : State) (s : List ℕ) (r : Reply) → Held m s → q < m .given .n → Answers (callLook kind q) s r → r ≡ looked (look kind q m)
 unfolding reply replyOf answerTo
 look-reply kind q m s r h b p =
-    p .meaning m h ∙ rw (eq-eqb (answer m (length s) 0 (q ∷ []) 0 false) 0 (answer-last m (length s) 0 (q ∷ []) 0 false (h .stored .long) (unfold turnKnown in refl) (sym (single-in (m .given .n) q b))
-    ∙ last-named m 0 false (omega (arith, h .stored .history .room)))) refl
+    p .meaning m h
+    ∙ rw (eq-eqb (answer m (length s) 0 (q ∷ []) 0 false) 0 (numbered m s 0 (q ∷ []) (h .stored) (unfold turnKnown in refl) ∙ sym (single-in (m .given .n) q b))) refl
 
 ran-out : (a : Look) → NotOut a → (steps : ℕ) → looked a ≡ looked (out steps) → ⊥
 ran-out (found id g n) h steps e = let z : _≡_ {A = ℕ} 0 1 = cc in omega arith
@@ -308,9 +328,18 @@ list-is : (m : State) (s : List ℕ) → Held m s → (b : ℕ) → b < listCoun
 unfolding listOf
 list-is m s h b q = lists-in-words (m .given .form) (m .given .n) (m .given .capacity) (plane m) m _ (h .stored .history) b q
 
+no-list : (m : State) (b : ℕ) → length (m .lists) ≤ b → listAt m b ≡ []
+unfolding listAt
+no-list m b h = List·getD-eq-default (m .lists) [] h
+
+none-there : (i : ℕ) (ids : List ℕ) → ids ≡ [] → occurs i ids ≡ 1 → ⊥
+unfolding occurs keep
+none-there i ids e h = let z : occurs i [] ≡ 1 = ap (occurs i) (sym e) ∙ h in omega (arith, z)
+
 -- demand 3 of every store that holds a state that calls leave
 pub held-demands : (m : State) (s : List ℕ) → Held m s → DemandThree m s
 held-demands m s h = record {
+  listed = λ b i a t. inside b i (lists .once b i a t) (decLt b (listCount (m .given .form) (m .given .n)));
   once = λ b i q a t. ap (occurs i) (list-is m s h b q) ∙ lists .once b i a t;
   nowhere-else = λ b i q t. ap (occurs i) (list-is m s h b q) ∙ lists .nowhere-else b i t;
   share = λ b q. subst (λ (x : List ℕ). Share (m .given .form) (dead (m .events) x) (length x)) (sym (list-is m s h b q)) (lists .share b);
@@ -332,9 +361,19 @@ held-demands m s h = record {
     lists : Listed m
     lists = listed m good
 
--- "After any calls since an opening, refused ones included, and no other writing, for all labels and in both list forms: ..": the mission's demand 3
-pub demand-three : (o : Opening) (cs : List Lent) (rs : List Reply) (e : List ℕ) → Since o cs rs e → DemandThree (calls cs (opened o)) e
-demand-three o cs rs e p = held-demands (calls cs (opened o)) e (since-computes o cs rs e p .1 .held)
+    -- past the last list there is none
+    inside : (b i : ℕ) → occurs i (listAt m b) ≡ 1 → Dec (b < listCount (m .given .form) (m .given .n)) → b < listCount (m .given .form) (m .given .n)
+    inside b i e (yes q) = q
+    inside b i e (no q) = absurd (none-there i (listAt m b) (no-list m b (omega (arith, h .stored .history .many))) e)
+
+-- "After any calls since an opening, refused ones included, and no other writing, for all labels and in both list forms: ..": the mission's demand 3, of any
+-- first part of the caller's words that is no shorter than at the opening
+pub demand-three : (o : Opening) (cs : List Lent) (rs : List Reply) (e : List ℕ) → Since o cs rs e
+    → (w : ℕ) → calls cs (opened o) .given .size ≤ w → w ≤ length e → DemandThree (calls cs (opened o)) (take w e)
+demand-three o cs rs e p w enough there =
+    let h : Held (calls cs (opened o)) e = since-computes o cs rs e p .1 .held in
+    held-demands (calls cs (opened o)) (take w e)
+    (record { reached = h .reached; stored = stored-below (calls cs (opened o)) w e (take w e) enough there (prefix-below w e there) (h .stored) })
 
 -- "Two openings that differ only in labels or form, followed by the same calls, give equal looks, steps aside, unless one runs out." All other replies are
 -- equal; the allowances may differ too

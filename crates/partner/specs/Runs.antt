@@ -1,5 +1,5 @@
--- What a caller does with a store: an opening, then calls in a row, each lent as much of the caller's words as the caller likes. A call is here what
--- its contract says of it, and no more. Assumes nothing.
+-- What a caller does with a store: an opening, then calls in a row, each lent any first part of the caller's words. A call is here what its contract says
+-- of it, and no more. Assumes nothing.
 use mathlib.Core.Path.{_≡_}
 use mathlib.Core.Logic.{_↔_}
 use mathlib.Core.Bool.{true, false}
@@ -9,7 +9,7 @@ use lib.ListN.{length, getD, take, drop}
 use lib.IntN.{ℤ}
 use Rattle.model.specs.Frame.{Kind, axis, paulis}
 use Rattle.model.specs.Events.{Opening, State, plane, touches, eventAt, liveAt, dead}
-use Rattle.model.specs.Search.{Look, found, none, blocked, out}
+use Rattle.model.specs.Search.{found, out}
 use Rattle.model.specs.Store.{listCount}
 use Rattle.model.specs.Calls.{Call, callOpen, callGate, callTurn, callRecord, callMeasure, callReset, callCcx, callCcz, callKill, callRead, callClear, callLook, Lent, opening, Reply, accepted, looked}
 use Rattle.model.specs.Demands.{Share, occurs, living, Named}
@@ -72,8 +72,12 @@ RanOut r = (steps : ℕ) × (r ≡ looked (out steps))
 abbrev pub Names : Reply → (id : ℕ) → ℤ → Type 0
 Names r id g = (steps : ℕ) × (r ≡ looked (found id g steps))
 
+-- Demand 3 of the words s of a store that holds m: `listOf m s b` is read off the words, and a look is any answer that keeps its promise on them. List b is
+-- of an event's support where its axis touches bit b (docs/DIFFERENCES.md, 1).
 pub record DemandThree (m : State) (s : List ℕ) : Type 0 where
-  -- "each live event stands once in every list of its support", and no event in another
+  -- "each live event stands once in every list of its support": there is such a list, it stands in it once, and no event stands in another
+  pub listed : (b i : ℕ) → liveAt (m .events) i ≡ true
+      → touches (plane m) (eventAt (m .events) i .x) (eventAt (m .events) i .z) b ≡ true → b < listCount (m .given .form) (m .given .n)
   pub once : (b i : ℕ) → b < listCount (m .given .form) (m .given .n) → liveAt (m .events) i ≡ true
       → touches (plane m) (eventAt (m .events) i .x) (eventAt (m .events) i .z) b ≡ true → occurs i (listOf m s b) ≡ 1
   pub nowhere-else : (b i : ℕ) → b < listCount (m .given .form) (m .given .n)

@@ -42,7 +42,7 @@ pub fn gate(s: &mut [u64], g: Gate) -> Answer
     gating::calls::gate(s, g)
 }
 
-// Applies the Clifford gates of a turn by k eighths of a kind. Refuses with 8 (k is not 0, 2, 4 or 6) or 4.
+// Applies the Clifford gates of a turn by k eighths of a full turn, of a kind. Refuses with 8 (k is not 0, 2, 4 or 6) or 4.
 pub fn turn(s: &mut [u64], kind: Kind, k: u64, q: usize) -> Answer
     ensures { λ r. ⌜ Meets (callTurn (kindOf kind) k q) (now (s .entry)) (told r) (now (s .exit)) ⌝ }
 {
@@ -65,21 +65,21 @@ pub fn record(s: &mut [u64], kind: Kind, q: usize, tag: u32) -> Answer
     )
 }
 
-// Records the blocker of a measurement.
+// Records the blocker of a measurement. Refuses with 4 or 6.
 pub fn measure(s: &mut [u64], q: usize) -> Answer
     ensures { λ r. ⌜ Meets (callMeasure q) (now (s .entry)) (told r) (now (s .exit)) ⌝ }
 {
     enroll(s, Mark::Measure(q))
 }
 
-// Records the two blockers of a reset, or none.
+// Records the two blockers of a reset, or none. Refuses with 4 or 6.
 pub fn reset(s: &mut [u64], q: usize) -> Answer
     ensures { λ r. ⌜ Meets (callReset q) (now (s .entry)) (told r) (now (s .exit)) ⌝ }
 {
     enroll(s, Mark::Reset(q))
 }
 
-// Records the seven blockers of a ccx with controls a and b and target t, or none.
+// Records the seven blockers of a ccx with controls a and b and target t, or none. Refuses with 4, 5 or 6.
 pub fn ccx(s: &mut [u64], a: usize, b: usize, t: usize) -> Answer
     ensures { λ r. ⌜ Meets (callCcx a b t) (now (s .entry)) (told r) (now (s .exit)) ⌝ }
 {

@@ -1,12 +1,12 @@
 -- The parts of a slice as the code lends them, and each way in which a kill, a clear, a read and a look end: for the functions of this crate.
 -- Assumes nothing.
-use mathlib.Core.Path.{_≡_, refl, sym, ap, ap₂, _∙_, subst}
+use mathlib.Core.Path.{_≡_, refl, sym, ap, _∙_, subst}
 use mathlib.Core.Logic.{inl, inr}
 use mathlib.Core.Bool.{Bool, true, false, cond}
 use mathlib.Core.List.{List, [], _∷_}
 use Prim.Native.Nat.{ℕ, _+_, _-_, _*_, _^_, _≤_, _<_}
 use native.Mathlib.Omega.{arith}
-use lib.ListN.{length, getD, take, drop, replicate, length-replicate}
+use lib.ListN.{length, getD, take, replicate, length-replicate}
 use lib.Seq.{length-take-le}
 use lib.IntN.{ℤ}
 use mir.Syntax.{w8}
@@ -20,7 +20,6 @@ use Rattle.model.specs.Events.{Form, State, some, clear, kill}
 use Rattle.model.specs.Search.{Look, found, none, blocked, out, look, lookFor}
 use Rattle.model.specs.Demands.{IsSign, HasSign}
 use Rattle.model.specs.Calls.{twice, callKill, callClear, callRead, callLook, notKillable, notReadable, Reading, reading, answer, answerTo, Reply, refused, accepted, says, looked, replyOf, effect}
-use Rattle.model.proofs.Good.{Good}
 use Rattle.model.proofs.Invariant.{even-axis}
 use Rattle.model.proofs.Products.{has-sign}
 use Rattle.model.proofs.Within.{within-axis}
@@ -32,12 +31,12 @@ use Rattle.pauli.proofs.Signs.{bits8, bits8-sign}
 use Rattle.pauli.proofs.Words.{rest-length}
 use Rattle.frame.specs.Places as frames
 use Rattle.frame.specs.Places.{IsRow}
-use Rattle.frame.specs.Axes.{either, axisOf, SignOrNone, kindOf, tagOf}
+use Rattle.frame.specs.Axes.{either, axisOf, kindOf, tagOf}
 use Rattle.frame.specs.declared.axes.Kind.{Kind}
 use Rattle.frame.specs.declared.axes.Kind.the-variants as kinds
 use Rattle.frame.specs.declared.axes.Tag.{Tag}
 use Rattle.frame.proofs.AxisLaws.{behind, row-behind}
-use Rattle.history.specs.Words.{historyRoom, countPlace, Holds, Sane, Becomes}
+use Rattle.history.specs.Words.{Holds, Sane, Becomes}
 use Rattle.history.specs.Sizes as history
 use Rattle.history.specs.Sizes.{formOf}
 use Rattle.history.specs.Kills as kills
@@ -49,88 +48,23 @@ use Rattle.history.specs.declared.events.Told.{Told}
 use Rattle.history.specs.declared.events.Told.the-variants as told
 use Rattle.history.specs.declared.looks.Seen.{Seen}
 use Rattle.history.specs.declared.looks.Seen.the-variants as seen
-use Rattle.history.proofs.StayLaws.{counts-there}
-use Rattle.history.proofs.Theorems.{good-sane}
 use Rattle.store.specs.declared.header.Sizes.{Sizes}
 use Rattle.store.specs.declared.answers.Sight.the-variants as sight
-use Rattle.store.specs.Stores.{frameSize, historyPlace, Stored, Held, StoredTo}
+use Rattle.store.specs.Stores.{Stored, Held, StoredTo}
 use Rattle.store.specs.Checks.{Fit}
 use Rattle.store.specs.Promises.{number, turnKnown, toldLook, qubitNumber, Answers, Meets}
-use Rattle.store.proofs.Splice.{splice, part-length, splice-length, splice-same}
-use Rattle.store.proofs.SizeLaws.{Own, own, fit-sized, frame-small, framing-planes, single-out, single-in}
-use Rattle.store.proofs.StoreLaws.{historyPart, frames-at, history-at, killed-to, cleared-to}
-use Rattle.store.proofs.AnswerLaws.{answer-qubits, answer-last, last-named}
-use Rattle.store.proofs.MeetLaws.{reached-good, says-answers, refuse-answers, accept-answers, refuse-meets, nine-meets, accept-meets}
+use Rattle.store.proofs.SizeLaws.{Own, own, single-out, single-in}
+use Rattle.store.proofs.StoreLaws.{killed-to, cleared-to}
+use Rattle.store.proofs.AnswerLaws.{answer-last, last-named, numbered}
+use Rattle.store.proofs.LentLaws.{held-good, held-sane, lent, lentFrames, back, room-is, lent-holds, frames-held, back-length, back-same, back-place, history-fits, as-history}
+use Rattle.store.proofs.MeetLaws.{refuse-answers, accept-answers, nine-answers, refuse-meets, nine-meets, accept-meets}
 use Rattle.seeking.specs.Sights.{sightOf}
 
--- ---- the parts that the code lends
-
-held-good : (m : State) (s : List ℕ) → Held m s → Good m
-held-good m s h = reached-good m (h .reached)
-
-held-sane : (m : State) (s : List ℕ) → Held m s → Sane m
-held-sane m s h = good-sane m (held-good m s h)
-
--- the history's part, `&s[at..end]`
-abbrev pub lent : Sizes → List ℕ → List ℕ
-lent z s = take (z .end - z .at) (drop (z .at) s)
-
--- the frames' part, `&s[14..at]`
-abbrev pub lentFrames : Sizes → List ℕ → List ℕ
-lentFrames z s = take (z .at - 14) (drop 14 s)
-
--- the whole slice when its history's part came back as ys
-abbrev pub back : Sizes → List ℕ → List ℕ → List ℕ
-back z s ys = splice (z .at) (z .end - z .at) s ys
+-- ---- the answer of a call that records nothing
 
 module _ (z : Sizes) (s : List ℕ) (fit : Fit z s) where
-  room-is : z .end - z .at ≡ historyRoom (formOf (z .form)) (z .n) (z .cap) (z .l)
-  room-is = omega (arith, fit .begins, fit .ends)
-
-  frames-size : z .at - 14 ≡ frameSize (z .n) (z .l)
-  frames-size = omega (arith, fit .begins)
-
-  -- where the parts lie
-  pub at-small : z .at ≤ 33686286
-  at-small = omega (arith, fit .begins, fit .framing .few, frame-small (z .n) (z .l) (fit .framing .few) (framing-planes (z .n) (z .l) s (fit .framing)))
-
-  pub at-before : z .at ≤ z .end
-  at-before = omega (arith, fit .begins, fit .ends)
-
-  pub planes-small : z .l ≤ 362
-  planes-small = framing-planes (z .n) (z .l) s (fit .framing)
-
-  there : z .at + (z .end - z .at) ≤ length s
-  there = omega (arith, at-before, fit .fits)
-
-  lent-length : length (lent z s) ≡ z .end - z .at
-  lent-length = part-length (z .at) (z .end - z .at) s there
-
-  pub lent-sized : history.Sized (formOf (z .form)) (z .n) (z .cap) (z .l) (lent z s)
-  lent-sized = fit-sized z s (lent z s) fit (lent-length ∙ room-is)
-
-  pub lent-counts : countPlace (z .cap) (z .l) ≤ length (lent z s)
-  lent-counts = counts-there (formOf (z .form)) (z .n) (z .cap) (z .l) (lent z s) lent-sized
-
-  lent-is : lent z s ≡ historyPart (formOf (z .form)) (z .n) (z .cap) (z .l) s
-  lent-is = ap₂ (λ (a k : ℕ). take k (drop a s)) (fit .begins) room-is
-
-  -- what they hold
-  lent-holds : (m : State) → Stored m s → Holds (formOf (z .form)) (z .n) (z .cap) (z .l) m (lent z s)
-  lent-holds m h =
-      let o : Own z m = own z m s fit h in
-      subst (λ (t : List ℕ). Holds (formOf (z .form)) (z .n) (z .cap) (z .l) m t) (sym lent-is)
-      (history-at (formOf (z .form)) (z .n) (z .cap) (z .l) m s (o .form) (o .qubits) (o .capacity) (o .planes) h)
-
-  pub frames-held : (m : State) → Stored m s → frames.Held (z .n) (z .l) (m .frame) (m .sketch) (lentFrames z s)
-  frames-held m h =
-      let o : Own z m = own z m s fit h in
-      subst (λ (k : ℕ). frames.Held (z .n) (z .l) (m .frame) (m .sketch) (take k (drop 14 s))) (sym frames-size) (frames-at (z .n) (z .l) m s (o .qubits) (o .planes) h)
-
-  -- ---- the answer of a call that records nothing
-
   room-for : (m : State) → Stored m s → length (m .events) + 0 ≤ m .given .capacity
-  room-for m h = omega (arith, lent-holds m h .room, own z m s fit h .capacity)
+  room-for m h = omega (arith, h .history .room)
 
   -- .. and names no qubit: whether it can name its event
   answer-event : (m : State) → Stored m s → (bad : Bool) → answer m (length s) 0 [] 0 bad ≡ cond bad 7 0
@@ -140,15 +74,11 @@ module _ (z : Sizes) (s : List ℕ) (fit : Fit z s) where
   -- .. or one qubit
   answer-in : (m : State) → Stored m s → (q : ℕ) → q < z .n → answer m (length s) 0 (q ∷ []) 0 false ≡ 0
   unfolding turnKnown
-  answer-in m h q l =
-      let l′ : q < m .given .n = omega (arith, l, own z m s fit h .qubits) in
-      answer-last m (length s) 0 (q ∷ []) 0 false (h .long) refl (sym (single-in (m .given .n) q l′)) ∙ last-named m 0 false (room-for m h)
+  answer-in m h q l = numbered m s 0 (q ∷ []) h refl ∙ sym (single-in (m .given .n) q (omega (arith, l, own z m s fit h .qubits)))
 
   answer-out : (m : State) → Stored m s → (q : ℕ) → z .n ≤ q → answer m (length s) 0 (q ∷ []) 0 false ≡ 4
   unfolding turnKnown
-  answer-out m h q l =
-      let l′ : m .given .n ≤ q = omega (arith, l, own z m s fit h .qubits) in
-      answer-qubits m (length s) 0 (q ∷ []) 0 false (h .long) refl 3 (sym (single-out (m .given .n) q l′))
+  answer-out m h q l = numbered m s 0 (q ∷ []) h refl ∙ sym (single-out (m .given .n) q (omega (arith, l, own z m s fit h .qubits)))
 
 -- ---- a kill
 
@@ -164,38 +94,19 @@ bad-done e = let y : _≡_ {A = ℕ} 0 1 = cc in omega arith
 
 -- the history's part came back as ys
 module _ (z : Sizes) (s : List ℕ) (fit : Fit z s) (ys : List ℕ) where
-  back-there : z .at + (z .end - z .at) ≤ length s
-  back-there = omega (arith, at-before z s fit, fit .fits)
-
-  back-length : length ys ≡ length (lent z s) → length (back z s ys) ≡ length s
-  back-length e = splice-length (z .at) (z .end - z .at) s back-there ys (e ∙ lent-length z s fit)
-
-  back-same : ys ≡ lent z s → back z s ys ≡ s
-  back-same e = ap (splice (z .at) (z .end - z .at) s) e ∙ splice-same (z .at) (z .end - z .at) s
-
-  back-place : back z s ys ≡ splice (historyPlace (z .n) (z .l)) (z .end - z .at) s ys
-  back-place = ap (λ (a : ℕ). splice a (z .end - z .at) s ys) (fit .begins)
-
-  history-fits : historyPlace (z .n) (z .l) + historyRoom (formOf (z .form)) (z .n) (z .cap) (z .l) ≤ length s
-  history-fits = omega (arith, fit .ends, fit .fits)
-
-  as-history : (m : State) → Becomes (formOf (z .form)) (z .n) (z .cap) (z .l) m (lent z s) ys
-      → Becomes (formOf (z .form)) (z .n) (z .cap) (z .l) m (historyPart (formOf (z .form)) (z .n) (z .cap) (z .l) s) ys
-  as-history m q = subst (λ (t : List ℕ). Becomes (formOf (z .form)) (z .n) (z .cap) (z .l) m t ys) (lent-is z s fit) q
-
   back-killed : (id : ℕ) (m : State) → Stored m s → Becomes (formOf (z .form)) (z .n) (z .cap) (z .l) (kill id m) (lent z s) ys → StoredTo (kill id m) s (back z s ys)
   back-killed id m h q =
       let o : Own z m = own z m s fit h in
-      subst (λ (t : List ℕ). StoredTo (kill id m) s t) (sym back-place)
-      (killed-to (formOf (z .form)) (z .n) (z .cap) (z .l) m s ys (z .end - z .at) (o .form) (o .qubits) (o .capacity) (o .planes) id h (room-is z s fit) history-fits
-      (as-history (kill id m) q))
+      subst (λ (t : List ℕ). StoredTo (kill id m) s t) (sym (back-place z s fit ys))
+      (killed-to (formOf (z .form)) (z .n) (z .cap) (z .l) m s ys (z .end - z .at) (o .form) (o .qubits) (o .capacity) (o .planes) id h (room-is z s fit) (history-fits z s fit ys)
+      (as-history z s fit ys (kill id m) q))
 
   back-cleared : (m : State) → Stored m s → Becomes (formOf (z .form)) (z .n) (z .cap) (z .l) (clear m) (lent z s) ys → StoredTo (clear m) s (back z s ys)
   back-cleared m h q =
       let o : Own z m = own z m s fit h in
-      subst (λ (t : List ℕ). StoredTo (clear m) s t) (sym back-place)
-      (cleared-to (formOf (z .form)) (z .n) (z .cap) (z .l) m s ys (z .end - z .at) (o .form) (o .qubits) (o .capacity) (o .planes) h (room-is z s fit) history-fits
-      (as-history (clear m) q))
+      subst (λ (t : List ℕ). StoredTo (clear m) s t) (sym (back-place z s fit ys))
+      (cleared-to (formOf (z .form)) (z .n) (z .cap) (z .l) m s ys (z .end - z .at) (o .form) (o .qubits) (o .capacity) (o .planes) h (room-is z s fit) (history-fits z s fit ys)
+      (as-history z s fit ys (clear m) q))
 
   -- a kill, by what `history` answered
   module _ (id : ℕ) (r : Killed) (long : length ys ≡ length (lent z s))
@@ -205,7 +116,7 @@ module _ (z : Sizes) (s : List ℕ) (fit : Fit z s) (ys : List ℕ) where
     -- "0: done"
     pub kill-done : r ≡ killed.Done → Meets (callKill id) s accepted (back z s ys)
     unfolding number answerTo replyOf effect
-    kill-done e = accept-meets (callKill id) s (fit .framing .enough) accepted refl (back z s ys) (back-length long) (λ m held.
+    kill-done e = accept-meets (callKill id) s (fit .framing .enough) accepted refl (back z s ys) (back-length z s fit ys long) (λ m held.
         let h = lent-holds z s fit m (held .stored) in
         let k = go m h (held-sane m s held) (notKillable (m .events) id) refl in
         (answer-event z s fit m (held .stored) (notKillable (m .events) id) ∙ ap (λ (b : Bool). cond b 7 0) (k .0), refl, back-killed id m (held .stored) (k .1)))
@@ -218,7 +129,7 @@ module _ (z : Sizes) (s : List ℕ) (fit : Fit z s) (ys : List ℕ) where
     -- "7: no such event, a blocker, or dead"
     pub kill-refused : r ≡ killed.Refused → ys ≡ lent z s → Meets (callKill id) s (refused 7) (back z s ys)
     unfolding answerTo
-    kill-refused e same = subst (Meets (callKill id) s (refused 7)) (sym (back-same same)) (refuse-meets (callKill id) s (fit .framing .enough) 6 (λ m held.
+    kill-refused e same = subst (Meets (callKill id) s (refused 7)) (sym (back-same z s fit ys same)) (refuse-meets (callKill id) s (fit .framing .enough) 6 (omega arith) (λ m held.
         answer-event z s fit m (held .stored) (notKillable (m .events) id)
         ∙ ap (λ (b : Bool). cond b 7 0) (go m (lent-holds z s fit m (held .stored)) (held-sane m s held) (notKillable (m .events) id) refl)))
       where
@@ -228,7 +139,7 @@ module _ (z : Sizes) (s : List ℕ) (fit : Fit z s) (ys : List ℕ) where
 
     -- a stored value is bad: no state is held
     pub kill-bad : r ≡ killed.Bad → Meets (callKill id) s (refused 9) (back z s ys)
-    kill-bad e = nine-meets (callKill id) s (fit .framing .enough) (back z s ys) (back-length long) (λ m held.
+    kill-bad e = nine-meets (callKill id) s (fit .framing .enough) (back z s ys) (back-length z s fit ys long) (λ m held.
         go m (lent-holds z s fit m (held .stored)) (held-sane m s held) (notKillable (m .events) id) refl)
       where
         go : (m : State) → Holds (formOf (z .form)) (z .n) (z .cap) (z .l) m (lent z s) → Sane m → (b : Bool) → notKillable (m .events) id ≡ b → ⊥
@@ -240,7 +151,7 @@ module _ (z : Sizes) (s : List ℕ) (fit : Fit z s) (ys : List ℕ) where
   pub clear-done : length ys ≡ length (lent z s)
       → ((f : Form) (n cap l : ℕ) (m : State) → Holds f n cap l m (lent z s) → Becomes f n cap l (clear m) (lent z s) ys) → Meets callClear s accepted (back z s ys)
   unfolding number answerTo replyOf effect
-  clear-done long does = accept-meets callClear s (fit .framing .enough) accepted refl (back z s ys) (back-length long) (λ m held. (
+  clear-done long does = accept-meets callClear s (fit .framing .enough) accepted refl (back z s ys) (back-length z s fit ys long) (λ m held. (
     answer-event z s fit m (held .stored) false,
     refl,
     back-cleared m (held .stored) (does (formOf (z .form)) (z .n) (z .cap) (z .l) m (lent-holds z s fit m (held .stored))),
@@ -279,8 +190,8 @@ module _ (z : Sizes) (s : List ℕ) (fit : Fit z s) (id : ℕ) (r : Told)
   -- the sign is what the machine reads off its bits
   pub read-says : (tag : ℕ) (sgn : ℤ) (live : Bool) → SFits w8 sgn → r ≡ told.Says tag sgn live
       → Answers (callRead id) s (says (record { tag = tag; sgn = bits8 sgn; live = live }))
-  unfolding answerTo replyOf
-  read-says tag sgn live small e = accept-answers (callRead id) s (fit .framing .enough) _ (λ m held.
+  unfolding answerTo replyOf number
+  read-says tag sgn live small e = accept-answers (callRead id) s (fit .framing .enough) _ (omega arith) (λ m held.
       let k = go m (notReadable (m .events) id) refl (reads m held (notReadable (m .events) id) refl) in (
         answer-event z s fit m (held .stored) (notReadable (m .events) id) ∙ ap (λ (b : Bool). cond b 7 0) (k .0),
         ap (λ (g : ℤ). says (record { tag = tag; sgn = g; live = live })) (toZ-ofZ w8 sgn small) ∙ says-reading (reading (m .events) id) tag sgn live (sym e ∙ k .1),
@@ -293,7 +204,7 @@ module _ (z : Sizes) (s : List ℕ) (fit : Fit z s) (id : ℕ) (r : Told)
   -- "7: no such event or a blocker"
   pub read-nothing : r ≡ told.Nothing → Answers (callRead id) s (refused 7)
   unfolding answerTo readOf
-  read-nothing e = refuse-answers (callRead id) s (fit .framing .enough) 6 (λ m held.
+  read-nothing e = refuse-answers (callRead id) s (fit .framing .enough) 6 (omega arith) (λ m held.
       answer-event z s fit m (held .stored) (notReadable (m .events) id)
       ∙ ap (λ (b : Bool). cond b 7 0) (go m (notReadable (m .events) id) refl (reads m held (notReadable (m .events) id) refl)))
     where
@@ -304,8 +215,8 @@ module _ (z : Sizes) (s : List ℕ) (fit : Fit z s) (id : ℕ) (r : Told)
   -- a stored value is bad: no state is held
   pub read-bad : r ≡ told.Bad → Answers (callRead id) s (refused 9)
   unfolding readOf
-  read-bad e = says-answers (callRead id) s (fit .framing .enough) (refused 9) (λ m held.
-      absurd (go m (notReadable (m .events) id) (reads m held (notReadable (m .events) id) refl)))
+  read-bad e = nine-answers (callRead id) s (fit .framing .enough) (λ m held.
+      go m (notReadable (m .events) id) (reads m held (notReadable (m .events) id) refl))
     where
       go : (m : State) (b : Bool) → Reads m b → ⊥
       go m true w = nothing-bad (sym w ∙ e)
@@ -317,6 +228,18 @@ module _ (z : Sizes) (s : List ℕ) (fit : Fit z s) (id : ℕ) (r : Told)
 pub sight-found : (v : Seen) (id n : ℕ) (g : ℤ) → SFits w8 g → v ≡ seen.Found id g n → toldLook (sight.Found id (bits8 g) n) ≡ sightOf v
 unfolding toldLook sightOf
 sight-found v id n g small e = ap (λ (a : ℤ). looked (found id a n)) (toZ-ofZ w8 g small) ∙ sym (ap sightOf e)
+
+-- whatever it saw, no number is above 9
+seen-small : (v : Seen) → number (sightOf v) ≤ 9
+unfolding number sightOf
+seen-small (seen.Found id g n) = omega arith
+seen-small (seen.Free n) = omega arith
+seen-small (seen.Blocked n) = omega arith
+seen-small (seen.Exhausted n) = omega arith
+seen-small seen.Bad = omega arith
+
+pub sight-small : (v : Seen) (a : Reply) → a ≡ sightOf v → number a ≤ 9
+sight-small v a e = omega (arith, ap number e, seen-small v)
 
 look-sight : (w : Look) → sightOf (lookOf w) ≡ looked w
 unfolding sightOf lookOf
@@ -336,10 +259,6 @@ is-none g e = let y : _≡_ {A = ℕ} 0 1 = cc in omega arith
 
 is-one : (g h : ℤ) → signum.Is g ≡ signum.Is h → g ≡ h
 is-one g h e = cc
-
--- in the arm `Is g` there is a sign, on any contents
-pub is-signed : (r : Signum) (g : ℤ) → SignOrNone r → r ≡ signum.Is g → IsSign g
-is-signed r g h e = rw e at h
 
 same-look : (m : State) (g h : ℤ) (a b : Label) (x y u w : ℕ) → g ≡ h → a ≡ b → x ≡ y → u ≡ w → lookFor m g a x u ≡ lookFor m h b y w
 same-look m g h a b x y u w e f i j = rw (e, f, i, j) refl
@@ -420,8 +339,8 @@ module _ (z : Sizes) (s : List ℕ) (fit : Fit z s) (kind : model.Kind) (q : ℕ
   -- "4: a qubit is n or more"
   pub look-out : z .n ≤ q → Answers (callLook kind q) s (refused 4)
   unfolding answerTo
-  look-out l = refuse-answers (callLook kind q) s (fit .framing .enough) 3 (λ m held. answer-out z s fit m (held .stored) q l)
+  look-out l = refuse-answers (callLook kind q) s (fit .framing .enough) 3 (omega arith) (λ m held. answer-out z s fit m (held .stored) q l)
 
-  pub look-says : q < z .n → (a : Reply) → ((m : State) → Held m s → a ≡ looked (look kind q m)) → Answers (callLook kind q) s a
+  pub look-says : q < z .n → (a : Reply) → number a ≤ 9 → ((m : State) → Held m s → a ≡ looked (look kind q m)) → Answers (callLook kind q) s a
   unfolding answerTo replyOf
-  look-says l a h = accept-answers (callLook kind q) s (fit .framing .enough) a (λ m held. (answer-in z s fit m (held .stored) q l, h m held))
+  look-says l a few h = accept-answers (callLook kind q) s (fit .framing .enough) a few (λ m held. (answer-in z s fit m (held .stored) q l, h m held))

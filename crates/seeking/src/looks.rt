@@ -22,7 +22,7 @@ ghost use Rattle.frame.specs.Places.{IsRow};
 ghost use Rattle.frame.specs.Axes.{kindOf};
 ghost use Rattle.store.specs.Stores.{Held};
 ghost use Rattle.store.specs.Checks.{Fit};
-ghost use Rattle.store.specs.Promises.{toldLook, Answers};
+ghost use Rattle.store.specs.Promises.{number, toldLook, Answers};
 ghost use Rattle.seeking.specs.Sights.{sightOf};
 
 // What the history saw, as the answer of a look.
@@ -45,7 +45,8 @@ fn sight(seen: Seen) -> Sight
 // The look for the axis of a kind, which is the row given, phase first.
 fn sought(s: &[u64], z: Sizes, kind: Kind, q: usize, row: &[u64]) -> Sight
     requires { ⌜ Fit z (now s) × (q < z .n) × (length (now row) ≡ 2 * z .l + 1) ⌝ }
-    ensures { λ r. ⌜ ((m : State) → Held m (now (s .entry)) → IsRow (z .l) (now (row .entry)) 0 (axis paulis (kindOf kind) q (m .frame)) → toldLook r ≡ looked (look (kindOf kind) q m)) ⌝ }
+    ensures few { λ r. ⌜ number (toldLook r) ≤ 9 ⌝ }
+    ensures says { λ r. ⌜ ((m : State) → Held m (now (s .entry)) → IsRow (z .l) (now (row .entry)) 0 (axis paulis (kindOf kind) q (m .frame)) → toldLook r ≡ looked (look (kindOf kind) q m)) ⌝ }
 {
     match row_sign(row) {
         Signum::No => Sight::Refused(9),
@@ -73,7 +74,8 @@ fn sought(s: &[u64], z: Sizes, kind: Kind, q: usize, row: &[u64]) -> Sight
 // The look for the axis y, whose row is written to `out`.
 fn sought_y(s: &[u64], z: Sizes, q: usize, out: &mut [u64]) -> Sight
     requires { ⌜ Fit z (now s) × (q < z .n) × (length (now out) ≡ 2 * z .l + 1) ⌝ }
-    ensures { λ r. ⌜ ((m : State) → Held m (now (s .entry)) → toldLook r ≡ looked (look kindY q m)) ⌝ }
+    ensures few { λ r. ⌜ number (toldLook r) ≤ 9 ⌝ }
+    ensures says { λ r. ⌜ ((m : State) → Held m (now (s .entry)) → toldLook r ≡ looked (look kindY q m)) ⌝ }
 {
     let at = z.at;
     if y_product(&s[14..at], z.n, z.l, q, out) {
@@ -85,7 +87,8 @@ fn sought_y(s: &[u64], z: Sizes, q: usize, out: &mut [u64]) -> Sight
 // The same with a row of its own: up to 192 qubits no large one is cleared.
 fn narrow_y(s: &[u64], z: Sizes, q: usize) -> Sight
     requires { ⌜ Fit z (now s) × (q < z .n) × (z .l ≤ 3) ⌝ }
-    ensures { λ r. ⌜ ((m : State) → Held m (now (s .entry)) → toldLook r ≡ looked (look kindY q m)) ⌝ }
+    ensures few { λ r. ⌜ number (toldLook r) ≤ 9 ⌝ }
+    ensures says { λ r. ⌜ ((m : State) → Held m (now (s .entry)) → toldLook r ≡ looked (look kindY q m)) ⌝ }
 {
     let mut out = [0u64; 7];
     let words = 2 * z.l + 1;
@@ -94,7 +97,8 @@ fn narrow_y(s: &[u64], z: Sizes, q: usize) -> Sight
 
 fn wide_y(s: &[u64], z: Sizes, q: usize) -> Sight
     requires { ⌜ Fit z (now s) × (q < z .n) ⌝ }
-    ensures { λ r. ⌜ ((m : State) → Held m (now (s .entry)) → toldLook r ≡ looked (look kindY q m)) ⌝ }
+    ensures few { λ r. ⌜ number (toldLook r) ≤ 9 ⌝ }
+    ensures says { λ r. ⌜ ((m : State) → Held m (now (s .entry)) → toldLook r ≡ looked (look kindY q m)) ⌝ }
 {
     let mut out = [0u64; 725];
     let words = 2 * z.l + 1;
@@ -104,7 +108,8 @@ fn wide_y(s: &[u64], z: Sizes, q: usize) -> Sight
 // The look, by its kind.
 fn sought_kind(s: &[u64], z: Sizes, kind: Kind, q: usize) -> Sight
     requires { ⌜ Fit z (now s) × (q < z .n) ⌝ }
-    ensures { λ r. ⌜ ((m : State) → Held m (now (s .entry)) → toldLook r ≡ looked (look (kindOf kind) q m)) ⌝ }
+    ensures few { λ r. ⌜ number (toldLook r) ≤ 9 ⌝ }
+    ensures says { λ r. ⌜ ((m : State) → Held m (now (s .entry)) → toldLook r ≡ looked (look (kindOf kind) q m)) ⌝ }
 {
     let at = z.at;
     match kind {

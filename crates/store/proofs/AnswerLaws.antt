@@ -1,14 +1,15 @@
 -- Laws of the answer numbers: what `answer` of `model` says of a call, by what the call has found so far, in 01's order. Assumes nothing.
-use mathlib.Core.Path.{_≡_, refl, sym, ap, _∙_}
-use mathlib.Core.Bool.{Bool, true, false, cond, not, _||_}
-use mathlib.Core.List.{List, [], _∷_}
-use Prim.Native.Nat.{ℕ, suc, _+_, _≤_, _<_}
+use mathlib.Core.Path.{_≡_, refl, sym, _∙_}
+use mathlib.Core.Bool.{Bool, true, false, cond}
+use mathlib.Core.List.{List}
+use Prim.Native.Nat.{ℕ, zero, suc, _+_, _≤_, _<_}
 use native.Mathlib.Omega.{arith}
 use lib.ListN.{length}
-use lib.Dec.{eqb, ltb, leb}
+use lib.Dec.{ltb, leb}
 use borrow.Author.Tests.{lt-ltb, le-ltb}
 use Rattle.model.specs.Events.{State, some}
 use Rattle.model.specs.Calls.{answer, twice}
+use Rattle.store.specs.Stores.{Stored}
 use Rattle.store.specs.Promises.{turnKnown, qubitNumber}
 
 -- what is left of the answer once the qubits are there and differ
@@ -51,3 +52,20 @@ last-full m records bad h = rw (lt-ltb (m .given .capacity) (length (m .events) 
 pub last-named : (m : State) (records : ℕ) (bad : Bool) → length (m .events) + records ≤ m .given .capacity → lastNumber m records bad ≡ cond bad 7 0
 unfolding lastNumber
 last-named m records bad h = rw (le-ltb (m .given .capacity) (length (m .events) + records) h) refl
+
+-- a call that records nothing and names no event, and whose turn is known: its qubits' number
+pub numbered : (m : State) (s : List ℕ) (k : ℕ) (qs : List ℕ) → Stored m s → turnKnown k ≡ true → answer m (length s) k qs 0 false ≡ qubitNumber (m .given .n) qs
+numbered m s k qs h e = go (qubitNumber (m .given .n) qs) refl
+  where
+    go : (a : ℕ) → qubitNumber (m .given .n) qs ≡ a → answer m (length s) k qs 0 false ≡ qubitNumber (m .given .n) qs
+    go zero d = answer-last m (length s) k qs 0 false (h .long) e d ∙ last-named m 0 false (omega (arith, h .history .room)) ∙ sym d
+    go (suc a) d = answer-qubits m (length s) k qs 0 false (h .long) e a d ∙ sym d
+
+pub qubit-small : (n : ℕ) (qs : List ℕ) → qubitNumber n qs ≤ 5
+unfolding qubitNumber
+qubit-small n qs = go (some (leb n) qs) (twice qs)
+  where
+    go : (a b : Bool) → cond a 4 (cond b 5 0) ≤ 5
+    go true b = omega arith
+    go false true = omega arith
+    go false false = omega arith

@@ -5,4 +5,5 @@ pub mod SizeLaws
 pub mod StoreLaws
 pub mod AnswerLaws
 pub mod MeetLaws
+pub mod LentLaws
 pub mod OpenLaws

@@ -1,19 +1,17 @@
 -- Each way in which a call ends, and that it then keeps its promise: one law for each, so that a call's proof cites one at each return.
 -- Assumes nothing.
 use mathlib.Core.Path.{_≡_, refl, sym, ap, _∙_, subst}
-use mathlib.Core.Logic.{_⊎_, inl, inr}
-use mathlib.Core.Bool.{Bool, true, false, cond}
+use mathlib.Core.Logic.{inl, inr}
 use mathlib.Core.List.{List, [], _∷_, _++_}
-use Prim.Native.Nat.{ℕ, suc, _+_, _*_, _≤_, _<_}
+use Prim.Native.Nat.{ℕ, suc, _+_, _≤_}
 use native.Mathlib.Omega.{arith}
-use lib.ListN.{length, getD}
-use lib.Dec.{eqb}
+use lib.ListN.{length}
 use borrow.Author.Tests.{eq-eqb, ne-eqb}
 use Rattle.model.specs.Events.{Opening, State}
 use Rattle.model.specs.Calls.{openAnswer, opened, Call, Lent, answerTo, Reply, refused, replyOf, reply, effect, call, calls}
 use Rattle.model.proofs.Theorems.{refusal-changes-nothing}
 use Rattle.model.proofs.Good.{Good, reached}
-use Rattle.store.specs.Stores.{Stored, Reached, Held, Relies, StoredTo, HeldTo}
+use Rattle.store.specs.Stores.{Reached, Held, StoredTo, HeldTo}
 use Rattle.store.specs.Promises.{number, Answers, Meets}
 use Rattle.store.specs.Checks.{Enough, TooShort, Damaged}
 use Rattle.store.proofs.SizeLaws.{stored-long}
@@ -50,23 +48,30 @@ enough-long s e (inr a) = omega (arith, e .size)
 
 module _ (c : Call) (s : List ℕ) where
   -- an answer that is right on the states held, from a slice that is not too short
-  pub says-answers : Enough s → (r : Reply) → ((m : State) → Held m s → r ≡ reply c (length s) m) → Answers c s r
-  says-answers e r h = record {
+  pub says-answers : Enough s → (r : Reply) → number r ≤ 9 → ((m : State) → Held m s → r ≡ reply c (length s) m) → Answers c s r
+  says-answers e r few h = record {
     headless = λ a. absurd (enough-long s e (inl a));
     shorter = λ a. absurd (enough-long s e (inr a));
+    known = few;
     meaning = h;
   }
 
   pub short-answers : TooShort s → Answers c s (refused 3)
+  unfolding number
   short-answers t = record {
     headless = λ a. refl;
     shorter = λ a. refl;
+    known = omega arith;
     meaning = λ m h. absurd (stored-long m s t (h .stored));
   }
 
-  -- the words hold no state: any answer
-  pub damaged-answers : Damaged s → (r : Reply) → Answers c s r
-  damaged-answers d r = says-answers (d .0) r (λ m h. absurd (d .1 m (h .stored)))
+  -- 9, on words that hold no state that calls leave
+  pub nine-answers : Enough s → ((m : State) → Held m s → ⊥) → Answers c s (refused 9)
+  unfolding number
+  nine-answers e h = says-answers e (refused 9) (omega arith) (λ m q. absurd (h m q))
+
+  pub damaged-answers : Damaged s → Answers c s (refused 9)
+  damaged-answers d = nine-answers (d .0) (λ m q. d .1 m (q .stored))
 
   refused-reply : (m : State) (k : ℕ) → answerTo c (length s) m ≡ suc k → refused (suc k) ≡ reply c (length s) m
   unfolding reply
@@ -80,11 +85,12 @@ module _ (c : Call) (s : List ℕ) where
   unfolding call
   accepted-call m e = rw (eq-eqb (answerTo c (length s) m) 0 e) refl
 
-  pub refuse-answers : Enough s → (k : ℕ) → ((m : State) → Held m s → answerTo c (length s) m ≡ suc k) → Answers c s (refused (suc k))
-  refuse-answers e k h = says-answers e (refused (suc k)) (λ m q. refused-reply m k (h m q))
+  pub refuse-answers : Enough s → (k : ℕ) → k ≤ 7 → ((m : State) → Held m s → answerTo c (length s) m ≡ suc k) → Answers c s (refused (suc k))
+  unfolding number
+  refuse-answers e k few h = says-answers e (refused (suc k)) (omega arith) (λ m q. refused-reply m k (h m q))
 
-  pub accept-answers : Enough s → (r : Reply) → ((m : State) → Held m s → (answerTo c (length s) m ≡ 0) × (r ≡ replyOf c m)) → Answers c s r
-  accept-answers e r h = says-answers e r (λ m q. h m q .1 ∙ accepted-reply m (h m q .0))
+  pub accept-answers : Enough s → (r : Reply) → number r ≤ 9 → ((m : State) → Held m s → (answerTo c (length s) m ≡ 0) × (r ≡ replyOf c m)) → Answers c s r
+  accept-answers e r few h = says-answers e r few (λ m q. h m q .1 ∙ accepted-reply m (h m q .0))
 
   -- ---- all words
 
@@ -102,19 +108,18 @@ module _ (c : Call) (s : List ℕ) where
     becomes = λ m h. absurd (stored-long m s t (h .stored));
   }
 
-  pub refuse-meets : Enough s → (k : ℕ) → ((m : State) → Held m s → answerTo c (length s) m ≡ suc k) → Meets c s (refused (suc k)) s
-  refuse-meets e k h = record {
-    answers = refuse-answers e k h;
+  pub refuse-meets : Enough s → (k : ℕ) → k ≤ 7 → ((m : State) → Held m s → answerTo c (length s) m ≡ suc k) → Meets c s (refused (suc k)) s
+  refuse-meets e k few h = record {
+    answers = refuse-answers e k few h;
     untouched = λ a b. refl;
     same-length = refl;
     becomes = λ m q. still m q (λ z. omega (arith, h m q, z));
   }
 
-  -- 9, on words that hold no state that calls leave
   pub nine-meets : Enough s → (t : List ℕ) → length t ≡ length s → ((m : State) → Held m s → ⊥) → Meets c s (refused 9) t
   unfolding number
   nine-meets e t long h = record {
-    answers = says-answers e (refused 9) (λ m q. absurd (h m q));
+    answers = nine-answers e h;
     untouched = λ a b. absurd (wrong b);
     same-length = long;
     becomes = λ m q. absurd (h m q);
@@ -129,7 +134,7 @@ module _ (c : Call) (s : List ℕ) where
   pub accept-meets : Enough s → (r : Reply) → number r ≡ 0 → (t : List ℕ) → length t ≡ length s
       → ((m : State) → Held m s → (answerTo c (length s) m ≡ 0) × (r ≡ replyOf c m) × StoredTo (effect c (length s) m) s t) → Meets c s r t
   accept-meets e r zeroth t long h = record {
-    answers = accept-answers e r (λ m q. (h m q .0, h m q .1));
+    answers = accept-answers e r (omega (arith, zeroth)) (λ m q. (h m q .0, h m q .1));
     untouched = λ a b. absurd (wrong a);
     same-length = long;
     becomes = λ m q.

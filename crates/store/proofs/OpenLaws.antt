@@ -1,10 +1,10 @@
 -- Laws of an opening: which test gives which number, in 01's order; and the header, the frames and the history written one after the other make the
 -- words hold the state that was opened. Assumes nothing.
 use mathlib.Core.Path.{_≡_, refl, sym, ap, _∙_, subst}
-use mathlib.Core.Logic.{_≢_, _⊎_, inl, inr}
-use mathlib.Core.Bool.{Bool, true, false, cond, not, _||_, true≢false}
+use mathlib.Core.Logic.{_≢_, inl, inr}
+use mathlib.Core.Bool.{Bool, true, false, not, _||_, true≢false}
 use mathlib.Core.List.{List}
-use Prim.Native.Nat.{ℕ, suc, _+_, _-_, _*_, _/_, _^_, _≤_, _<_}
+use Prim.Native.Nat.{ℕ, _+_, _-_, _*_, _/_, _^_, _≤_, _<_}
 use native.Mathlib.Nat.{mul-le-mul, mul-le-mul-right}
 use native.Mathlib.Omega.{arith}
 use native.Mathlib.Decide.{decLt}
@@ -14,18 +14,18 @@ use lib.Dec.{eqb, ltb}
 use borrow.Author.Tests.{lt-ltb, le-ltb, eq-eqb, ne-eqb}
 use Rattle.model.specs.Frame.{fresh}
 use Rattle.model.specs.Sketch.{labelRows}
-use Rattle.model.specs.Events.{Form, Opening, State, words, plane}
+use Rattle.model.specs.Events.{Form, Opening, words}
 use Rattle.model.specs.Store.{need}
-use Rattle.model.specs.Calls.{tooWide, openNumber, openAnswer, opened, opening, Reply, refused, accepted}
+use Rattle.model.specs.Calls.{tooWide, openNumber, openAnswer, opened, opening, refused, accepted}
 use Rattle.model.proofs.Theorems.{qubit-limit}
-use Rattle.lists.specs.Lists.{Among, Only}
+use Rattle.lists.specs.Lists.{Among}
 use Rattle.frame.specs.Places as frames
 use Rattle.history.specs.Words.{historyRoom, Holds, Uses, Becomes}
 use Rattle.history.specs.Sizes as history
 use Rattle.history.specs.Sizes.{formOf, Narrow}
 use Rattle.history.specs.declared.forms.Form as forms
 use Rattle.history.specs.declared.forms.Form.the-variants.{Scalar, Sliced}
-use Rattle.store.specs.Stores.{part, frameSize, historyPlace, formCode, Header, Stored, Relies, StoredTo, HeldTo}
+use Rattle.store.specs.Stores.{part, frameSize, historyPlace, formCode, Header, StoredTo}
 use Rattle.store.specs.declared.answers.Answer.the-variants.{Done, Refused}
 use Rattle.store.specs.Promises.{told, Opens}
 use Rattle.store.specs.Checks.{Stamped}

@@ -1,26 +1,25 @@
 -- Laws of the words of a store: its parts at the sizes that a call was told, a part that came back changed, and two changes in a row. Assumes nothing.
-use mathlib.Core.Path.{_≡_, refl, sym, ap, _∙_, subst}
-use mathlib.Core.Logic.{_⊎_, inl, inr}
+use mathlib.Core.Path.{_≡_, sym, ap, _∙_, subst}
+use mathlib.Core.Logic.{inl, inr}
 use mathlib.Core.Bool.{Bool, true, false, cond}
 use mathlib.Core.List.{List, [], _∷_, _++_}
 use Prim.Native.Nat.{ℕ, zero, suc, _+_, _-_, _*_, _/_, _≤_, _<_}
 use native.Mathlib.Nat.{mul-le-mul-right}
 use native.Mathlib.Omega.{arith}
-use native.Mathlib.Decide.{decLt, decLe}
-use lib.ListN.{length, getD, take, drop, length-append}
+use native.Mathlib.Decide.{decLt}
+use lib.ListN.{length, getD, length-append}
 use Rattle.model.specs.Pauli.{Pauli}
 use Rattle.model.specs.Frame.{Rows}
 use Rattle.model.specs.Sketch.{Label}
-use Rattle.model.specs.Events.{Event, Form, scalar, sliced, Opening, State, words, plane, touches, eventAt, push, record1, kill, clear}
+use Rattle.model.specs.Events.{Event, Form, scalar, sliced, Opening, State, words, plane, touches, push, record1, kill, clear}
 use Rattle.model.specs.Search.{listAt}
-use Rattle.model.specs.Store.{listCount}
 use Rattle.model.specs.Calls.{reframed}
 use Rattle.model.proofs.Lists.{at-old, length-new}
 use Rattle.lists.specs.Lists.{Among, Only}
 use Rattle.frame.specs.Places as frames
-use Rattle.history.specs.Words.{historyRoom, Given, Holds, Uses, OfEvent, OfList, OfLists, ListsIn, Becomes, deadIn}
+use Rattle.history.specs.Words.{historyRoom, Holds, Uses, OfEvent, OfList, ListsIn, Becomes, deadIn}
 use Rattle.store.specs.Stores.{part, frameSize, historyPlace, Header, Stored, Relies, StoredTo}
-use Rattle.store.proofs.Splice.{splice, part-length, part-at, splice-length, splice-in, splice-out, splice-part, splice-other}
+use Rattle.store.proofs.Splice.{splice, part-at, splice-length, splice-in, splice-out, splice-part, splice-other}
 
 -- ---- the parts, at sizes that are known by equations
 

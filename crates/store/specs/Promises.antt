@@ -1,6 +1,6 @@
 -- The promise of a call, in one form for all of them (DESIGN.md 3): s is the slice at entry, t at exit, r what the call gives back. On any contents:
--- a slice that is too short gets 3, and an answer from 1 to 8 leaves every word. On words that hold a state m that calls can leave: the answer
--- is `model`'s, and every word is. Assumes nothing.
+-- a slice that is too short gets 3, no number is above 9, and an answer from 1 to 8 leaves every word. On words that hold a state m that calls can leave:
+-- the answer is `model`'s, and every word is the new state's or, where that relies on none, as at entry. Assumes nothing.
 use mathlib.Core.Path.{_≡_}
 use mathlib.Core.Bool.{Bool, cond, _||_}
 use mathlib.Core.List.{List}
@@ -60,6 +60,8 @@ pub record Answers (c : Call) (s : List ℕ) (r : Reply) : Type 0 where
   pub headless : length s < 14 → r ≡ refused 3
   -- "store shorter than at its opening"
   pub shorter : length s < getD s 0 0 → r ≡ refused 3
+  -- "answer 9 or a plain answer comes back", or a refusal that 01 has
+  pub known : number r ≤ 9
   pub meaning : (m : State) → Held m s → r ≡ reply c (length s) m
 
 -- what a call that writes promises

@@ -36,7 +36,7 @@ pub enum Checked {
     Bad,
 }
 
-// What a gate has to know of a store: no event stands before the frames.
+// What a gate and a turn have to know of a store: the frames stand right behind the header, so that neither E nor the form is read.
 pub fn frame_sizes(s: &[u64]) -> Framed
     ensures { λ r. ⌜ TellsFrame (now (s .entry)) r ⌝ }
 {

@@ -3,12 +3,8 @@ use mathlib.Core.Path.{_≡_}
 use Prim.Native.Nat.{_-_, _≤_}
 use lib.ListN.{length}
 use borrow.Author.Needs.{needs}
-use native.Mathlib.Omega.{arith}
 use Rattle.worked.proofs.turns.Statement.{statement}
 use Rattle.worked.proofs.turns.Tie as tie
-use Rattle.worked.proofs.turns.Reads as reads
-use Rattle.worked.proofs.turns.Lts as lts
-use Rattle.partner.proofs.calls.record.Reads as record-reads
 
 abbrev Inv-loop : tie.InvT-loop
 Inv-loop s₀ many i₀ s i = (length s ≡ length s₀) × (i ≤ many)

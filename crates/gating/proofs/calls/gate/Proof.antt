@@ -11,7 +11,7 @@ use Rattle.store.proofs.SizeLaws.{told-short, told-bad, told-ready}
 use Rattle.store.proofs.MeetLaws.{short-meets, damaged-meets}
 use Rattle.gating.specs.Gates.{gateOf}
 use Rattle.gating.proofs.GatingLaws.{qubits-fit}
-use Rattle.gating.proofs.CallLaws.{gate-number, frames-few, planes-few, frames-long, framed-refused, framed-nine, gate-done}
+use Rattle.gating.proofs.CallLaws.{gate-number, frames-few, planes-few, frames-long, framed-refused, framed-nine, gate-done, gate-small}
 use native.Mathlib.Omega.{arith}
 use borrow.Author.Needs.{needs}
 use Rattle.gating.proofs.calls.gate.Statement.{statement}
@@ -68,7 +68,7 @@ returns c =
     let s = words (r .before .before) in
     let g = start (r .before .before) .args .g in
     framed-refused (callGate (gateOf g)) (n .0) (n .1 .0) s (framing r) (qubitNumber (n .0) (gateQubits (gateOf g))) (gate-number (n .0) (n .1 .0) s (gateOf g) (framing r))
-    (r .refusal .result) (r .refusal .ensures) (c .if1 .taken)
+    (gate-small (n .0) (gateOf g)) (r .refusal .result) (r .refusal .ensures) (c .if1 .taken)
 
 mul-end : tie.Need-mul-end
 mul-end c = omega (arith, few (c .before), planes (c .before))

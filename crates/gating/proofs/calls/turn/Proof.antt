@@ -12,7 +12,7 @@ use Rattle.store.proofs.SizeLaws.{told-short, told-bad, told-ready}
 use Rattle.store.proofs.MeetLaws.{short-meets, damaged-meets}
 use Rattle.gating.specs.Gates.{turnNumber}
 use Rattle.gating.proofs.GatingLaws.{turn-fits}
-use Rattle.gating.proofs.CallLaws.{turn-number, frames-few, planes-few, frames-long, framed-refused, framed-nine, turn-done}
+use Rattle.gating.proofs.CallLaws.{turn-number, frames-few, planes-few, frames-long, framed-refused, framed-nine, turn-done, turn-small}
 use native.Mathlib.Omega.{arith}
 use borrow.Author.Needs.{needs}
 use Rattle.gating.proofs.calls.turn.Statement.{statement}
@@ -69,7 +69,7 @@ returns c =
     let s = words (r .before .before) in
     let a = start (r .before .before) .args in
     framed-refused (callTurn (kindOf (a .kind)) (a .k) (a .q)) (n .0) (n .1 .0) s (framing r) (turnNumber (n .0) (a .k) (a .q)) (turn-number (n .0) (n .1 .0) s (kindOf (a .kind)) (a .k) (a .q) (framing r))
-    (r .turn-refusal .result) (r .turn-refusal .ensures) (c .if1 .taken)
+    (turn-small (n .0) (a .k) (a .q)) (r .turn-refusal .result) (r .turn-refusal .ensures) (c .if1 .taken)
 
 mul-end : tie.Need-mul-end
 mul-end c = omega (arith, few (c .before), planes (c .before))

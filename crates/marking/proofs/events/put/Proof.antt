@@ -1,6 +1,8 @@
 -- `marking::events::put` meets its contract: one record on the history's part. Assumes nothing.
 use Rattle.pauli.proofs.Words.{rest-length}
-use Rattle.marking.proofs.PutMarks.{lent-room, put-fit, put-kept, put-bad, back-length}
+use Rattle.marking.proofs.PutMarks.{put-fit, put-kept, put-bad}
+use mathlib.Core.Path.{_∙_}
+use Rattle.store.proofs.LentLaws.{lent-length, lent-sized}
 use native.Mathlib.Omega.{arith}
 use borrow.Author.Needs.{needs}
 use Rattle.marking.proofs.events.put.Statement.{statement}
@@ -31,7 +33,7 @@ record-requires : tie.Need-record-requires
 record-requires c κs =
     let s = c .before .before .before .before in
     let a = s .args in
-    (lent-room (a .z) (a .s .now) (s .pre .0), omega (arith, rest-length (a .row .now) 1, s .pre .1), s .pre .2)
+    (lent-sized (a .z) (a .s .now) (s .pre .0), omega (arith, rest-length (a .row .now) 1, s .pre .1), s .pre .2)
 
 enum-told : tie.Need-enum-told
 enum-told c = search needs
@@ -48,7 +50,7 @@ returns c =
     let a = s .args in
     let x = c .before .before .before .before in
     let ys = x .«record» .last .0 in (
-      put-fit (a .z) (a .s .now) ys (s .pre .0) (back-length (a .z) (a .s .now) ys (s .pre .0) (x .«record» .ensures .0)),
+      put-fit (a .z) (a .s .now) ys (s .pre .0) (x .«record» .ensures .0 ∙ lent-length (a .z) (a .s .now) (s .pre .0)),
       put-kept (a .z) (a .s .now) ys (a .row .now) (a .body) (x .«record» .result) (s .pre .0) (x .«record» .ensures .1),
     )
 
@@ -61,7 +63,7 @@ returns-2 c =
     let a = s .args in
     let x = c .before .before .before .before in
     let ys = x .«record» .last .0 in (
-      put-fit (a .z) (a .s .now) ys (s .pre .0) (back-length (a .z) (a .s .now) ys (s .pre .0) (x .«record» .ensures .0)),
+      put-fit (a .z) (a .s .now) ys (s .pre .0) (x .«record» .ensures .0 ∙ lent-length (a .z) (a .s .now) (s .pre .0)),
       put-bad (a .z) (a .s .now) ys (a .row .now) (a .body) (x .«record» .result) (s .pre .0) (x .«record» .ensures .1) (c .enum-told2 .given .1),
     )
 

@@ -1,8 +1,7 @@
 -- `marking::events::rotate` meets its contract: label, axis and sign are read, then the rotation is recorded. Assumes nothing.
-use Rattle.pauli.proofs.Signs.{bits8}
-use Rattle.marking.proofs.PutMarks.{off, bits-sign, kept-sign, rotate-records, unsigned-records, no-axis-records}
+use Rattle.pauli.proofs.Signs.{bits8, bits8-sign}
+use Rattle.frame.proofs.AxisLaws.{is-signed}
 use Rattle.marking.proofs.PutMarks.{off, bits-sign, rotate-records, unsigned-records, no-axis-records}
-use Rattle.marking.proofs.PutMarks.{bits-sign, rotate-records, unsigned-records, no-axis-records}
 use native.Mathlib.Omega.{arith}
 use borrow.Author.Needs.{needs}
 use Rattle.marking.proofs.events.rotate.Statement.{statement}
@@ -54,13 +53,12 @@ enum-told c = search needs
 enum-known-g : tie.Need-enum-known-g
 enum-known-g c = search needs
 
-either-sign-requires : tie.Need-either-sign-requires
-either-sign-requires c κs = search needs
-
 put-requires : tie.Need-put-requires
 put-requires c κs =
-    let s = c .before .before .before .before .before .before .before .before .before .before .before .before .before .before .before .before .before .before .before .before in
-    (s .pre .0, omega arith, bits-sign (c .either-sign .result) (c .either-sign .ensures .0))
+    let s = c .before .before .before .before .before .before .before .before .before .before .before .before .before .before .before .before .before .before .before in
+    let sgn = c .before .before .before .before .before .row-sign in
+    let w = c .before .before .before .g .given in
+    (s .pre .0, omega arith, bits-sign (w .0 .0) (is-signed (sgn .result) (w .0 .0) (sgn .ensures .1 .0) (w .1)))
 
 same-length-3 : tie.Need-same-length-3
 same-length-3 c = search needs
@@ -84,15 +82,14 @@ same-length-6 c = search needs
 
 returns-3 : tie.Need-returns-3
 returns-3 c =
-    let s = c .before .before .before .before .before .before .before .before .before .before .before .before .before .before .before .before .before .before .before .before .before .before .before in
+    let s = c .before .before .before .before .before .before .before .before .before .before .before .before .before .before .before .before .before .before .before .before .before .before in
     let a = s .args in
-    let row = c .before .before .before .before .before .before .before .before .before .before .before .before .before .before .axis-into in
-    let tagged = c .before .before .before .before .before .before .before .before .before .before .before .before .before .before .before .before .before .before .label in
-    let sgn = c .before .before .before .before .before .before .before .before .before .row-sign in
-    let w = c .before .before .before .before .before .before .before .g .given in
-    let e = c .before .before .before .either-sign in
+    let row = c .before .before .before .before .before .before .before .before .before .before .before .before .before .axis-into in
+    let tagged = c .before .before .before .before .before .before .before .before .before .before .before .before .before .before .before .before .before .label in
+    let sgn = c .before .before .before .before .before .before .before .before .row-sign in
+    let w = c .before .before .before .before .before .before .g .given in
     let x = c .before .before .put in
-    (x .ensures .0, rotate-records (a .z) (a .s .now) (row .last .1 .1 .1 .1 .1 .0) (s .pre .0) (omega arith) (a .kind) (a .q) (a .tag) (row .result) (sgn .result) (s .pre .2) (row .ensures) (sgn .ensures .0) (x .last .0) (x .result) (w .0 .0) (bits8 (e .result)) (tagged .result) (tagged .ensures) (w .1) (kept-sign (w .0 .0) (e .result) (e .ensures .0) (e .ensures .1)) (x .ensures .1))
+    (x .ensures .0, rotate-records (a .z) (a .s .now) (row .last .1 .1 .1 .1 .1 .0) (s .pre .0) (omega arith) (a .kind) (a .q) (a .tag) (row .result) (sgn .result) (s .pre .2) (row .ensures) (sgn .ensures .0) (x .last .0) (x .result) (w .0 .0) (bits8 (w .0 .0)) (tagged .result) (tagged .ensures) (w .1) (bits8-sign (w .0 .0)) (x .ensures .1))
 
 pub rotate-spec : {M : Type 1} → statement M
 rotate-spec =
@@ -112,7 +109,6 @@ rotate-spec =
     row-sign-requires
     enum-told
     enum-known-g
-    either-sign-requires
     put-requires
     same-length-3
     same-length-4

@@ -2,21 +2,9 @@
 use Rattle.store.specs.Promises.{told}
 use Rattle.partner.specs.Calls.{callIn}
 use Rattle.partner.proofs.ApplyLaws.{meets-as}
-use native.Mathlib.Omega.{arith}
 use borrow.Author.Needs.{needs}
 use Rattle.partner.proofs.calls.apply.Statement.{statement}
 use Rattle.partner.proofs.calls.apply.Tie as tie
-use Rattle.partner.proofs.calls.apply.Reads as reads
-use Rattle.partner.proofs.calls.apply.Lts as lts
-use Rattle.partner.proofs.calls.ccx.Reads as ccx-reads
-use Rattle.partner.proofs.calls.ccz.Reads as ccz-reads
-use Rattle.partner.proofs.calls.clear.Reads as clear-reads
-use Rattle.partner.proofs.calls.gate.Reads as gate-reads
-use Rattle.partner.proofs.calls.kill.Reads as kill-reads
-use Rattle.partner.proofs.calls.measure.Reads as measure-reads
-use Rattle.partner.proofs.calls.record.Reads as record-reads
-use Rattle.partner.proofs.calls.reset.Reads as reset-reads
-use Rattle.partner.proofs.calls.turn.Reads as turn-reads
 
 enum-known-c : tie.Need-enum-known-c
 enum-known-c c = search needs

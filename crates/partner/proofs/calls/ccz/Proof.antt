@@ -1,12 +1,8 @@
 -- `partner::calls::ccz` meets its contract: it is the call of its mark. Assumes nothing.
 use Rattle.marking.specs.Marks.{callOf}
-use native.Mathlib.Omega.{arith}
 use borrow.Author.Needs.{needs}
 use Rattle.partner.proofs.calls.ccz.Statement.{statement}
 use Rattle.partner.proofs.calls.ccz.Tie as tie
-use Rattle.partner.proofs.calls.ccz.Reads as reads
-use Rattle.partner.proofs.calls.ccz.Lts as lts
-use Rattle.marking.proofs.calls.enroll.Reads as enroll-reads
 
 enroll-requires : tie.Need-enroll-requires
 enroll-requires c κs = search needs

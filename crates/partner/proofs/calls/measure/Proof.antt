@@ -1,12 +1,8 @@
 -- `partner::calls::measure` meets its contract: it is the call of its mark. Assumes nothing.
 use Rattle.marking.specs.Marks.{callOf}
-use native.Mathlib.Omega.{arith}
 use borrow.Author.Needs.{needs}
 use Rattle.partner.proofs.calls.measure.Statement.{statement}
 use Rattle.partner.proofs.calls.measure.Tie as tie
-use Rattle.partner.proofs.calls.measure.Reads as reads
-use Rattle.partner.proofs.calls.measure.Lts as lts
-use Rattle.marking.proofs.calls.enroll.Reads as enroll-reads
 
 enroll-requires : tie.Need-enroll-requires
 enroll-requires c κs = search needs

@@ -4,7 +4,8 @@ use Rattle.store.specs.Promises.{told}
 use Rattle.store.specs.Checks.{Fit}
 use Rattle.store.proofs.SizeLaws.{tells-short, tells-bad, tells-ready}
 use Rattle.store.proofs.MeetLaws.{short-meets, damaged-meets}
-use Rattle.seeking.proofs.SeekLaws.{at-small, at-before, lent-counts, clear-done}
+use Rattle.store.proofs.LentLaws.{at-small, at-before, lent-counts}
+use Rattle.seeking.proofs.SeekLaws.{clear-done}
 use native.Mathlib.Omega.{arith}
 use borrow.Author.Needs.{needs}
 use Rattle.seeking.proofs.events.clear.Statement.{statement}

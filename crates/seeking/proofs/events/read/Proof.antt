@@ -1,10 +1,11 @@
 -- `seeking::events::read` meets its contract: by what the header and then `history` told. Assumes nothing.
-use Rattle.model.specs.Calls.{callRead, refused}
+use Rattle.model.specs.Calls.{callRead}
 use Rattle.store.specs.Promises.{toldRead}
 use Rattle.store.specs.Checks.{Fit}
 use Rattle.store.proofs.SizeLaws.{tells-short, tells-bad, tells-ready}
 use Rattle.store.proofs.MeetLaws.{short-answers, damaged-answers}
-use Rattle.seeking.proofs.SeekLaws.{at-small, at-before, planes-small, lent-counts, read-says, read-nothing, read-bad}
+use Rattle.store.proofs.LentLaws.{at-small, at-before, planes-small, lent-counts}
+use Rattle.seeking.proofs.SeekLaws.{read-says, read-nothing, read-bad}
 use native.Mathlib.Omega.{arith}
 use borrow.Author.Needs.{needs}
 use Rattle.seeking.proofs.events.read.Statement.{statement}
@@ -67,7 +68,7 @@ unfolding toldRead
 returns-2 c =
     let s = c .before .before .before .before in
     let a = c .before .before in
-    damaged-answers (callRead (s .args .id)) (s .args .s .now) (tells-bad (s .args .s .now) (a .all-sizes .result) (c .enum-told2 .given .1) (a .all-sizes .ensures)) (refused 9)
+    damaged-answers (callRead (s .args .id)) (s .args .s .now) (tells-bad (s .args .s .now) (a .all-sizes .result) (c .enum-told2 .given .1) (a .all-sizes .ensures))
 
 returns-3 : tie.Need-returns-3
 unfolding toldRead

@@ -1,5 +1,5 @@
 -- `seeking::looks::look` meets its contract: by what the header told, and by the look. Assumes nothing.
-use Rattle.model.specs.Calls.{callLook, refused}
+use Rattle.model.specs.Calls.{callLook}
 use Rattle.frame.specs.Axes.{kindOf}
 use Rattle.store.specs.Promises.{toldLook}
 use Rattle.store.specs.Checks.{Fit}
@@ -51,13 +51,13 @@ unfolding toldLook
 returns-3 c =
     let s = c .before .before .before .before in
     let a = c .before .before in
-    damaged-answers (callLook (kindOf (s .args .kind)) (s .args .q)) (s .args .s .now) (tells-bad (s .args .s .now) (a .all-sizes .result) (c .enum-told2 .given .1) (a .all-sizes .ensures)) (refused 9)
+    damaged-answers (callLook (kindOf (s .args .kind)) (s .args .q)) (s .args .s .now) (tells-bad (s .args .s .now) (a .all-sizes .result) (c .enum-told2 .given .1) (a .all-sizes .ensures))
 
 returns-4 : tie.Need-returns-4
 returns-4 c =
     let s = c .before .before .before .before .before .before .before .before in
     let z = c .before .before .before .before .z .given .0 .0 in
-    look-says z (s .args .s .now) (fit (c .before .before .before)) (kindOf (s .args .kind)) (s .args .q) (c .before .if1 .left) (toldLook (c .sought-kind .result)) (c .sought-kind .ensures)
+    look-says z (s .args .s .now) (fit (c .before .before .before)) (kindOf (s .args .kind)) (s .args .q) (c .before .if1 .left) (toldLook (c .sought-kind .result)) (c .sought-kind .ensures .0) (c .sought-kind .ensures .1)
 
 pub look-spec : {M : Type 1} → statement M
 look-spec =

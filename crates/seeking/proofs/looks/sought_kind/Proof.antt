@@ -1,6 +1,7 @@
 -- `seeking::looks::sought_kind` meets its contract, by the kinds. Assumes nothing.
 use Rattle.store.specs.Promises.{toldLook}
-use Rattle.seeking.proofs.SeekLaws.{frames-held, axis-x, axis-z, axis-p, look-y}
+use Rattle.store.proofs.LentLaws.{frames-held}
+use Rattle.seeking.proofs.SeekLaws.{axis-x, axis-z, axis-p, look-y}
 use borrow.Author.Needs.{needs}
 use Rattle.seeking.proofs.looks.sought_kind.Statement.{statement}
 use Rattle.seeking.proofs.looks.sought_kind.Tie as tie
@@ -30,7 +31,7 @@ narrow-y-requires : tie.Need-narrow-y-requires
 narrow-y-requires c κs = search needs
 
 returns : tie.Need-returns
-returns c = let a = c .before .before .before .before .before .before .args in λ m held. look-y (a .kind) (a .q) (toldLook (c .narrow-y .result)) m (c .before .before .before .enum-told2 .given .1) (c .narrow-y .ensures m held)
+returns c = let a = c .before .before .before .before .before .before .args in (c .narrow-y .ensures .0, λ m held. look-y (a .kind) (a .q) (toldLook (c .narrow-y .result)) m (c .before .before .before .enum-told2 .given .1) (c .narrow-y .ensures .1 m held))
 
 wide-y-requires : tie.Need-wide-y-requires
 wide-y-requires c κs = search needs
@@ -75,28 +76,37 @@ returns-2 : tie.Need-returns-2
 returns-2 c =
     let s = c .before .before .before .before .before .before in
     let a = s .args in
-    let r = c .before .axis-row in λ m held.
-    c .sought .ensures m held
-    (axis-x (a .kind) (a .q) (a .z .l) (r .result .now) (m .frame) (c .before .before .before .enum-told .given .1) (r .ensures .1 (m .frame) (m .sketch) (frames-held (s .args .z) (s .args .s .now) (s .pre .0) m (held .stored))))
+    let r = c .before .axis-row in (
+      c .sought .ensures .0,
+      λ m held.
+          c .sought .ensures .1 m held
+          (axis-x (a .kind) (a .q) (a .z .l) (r .result .now) (m .frame) (c .before .before .before .enum-told .given .1) (r .ensures .1 (m .frame) (m .sketch) (frames-held (s .args .z) (s .args .s .now) (s .pre .0) m (held .stored)))),
+    )
 
 returns-3 : tie.Need-returns-3
-returns-3 c = let a = c .before .before .before .before .before .before .args in λ m held. look-y (a .kind) (a .q) (toldLook (c .wide-y .result)) m (c .before .before .before .enum-told2 .given .1) (c .wide-y .ensures m held)
+returns-3 c = let a = c .before .before .before .before .before .before .args in (c .wide-y .ensures .0, λ m held. look-y (a .kind) (a .q) (toldLook (c .wide-y .result)) m (c .before .before .before .enum-told2 .given .1) (c .wide-y .ensures .1 m held))
 
 returns-4 : tie.Need-returns-4
 returns-4 c =
     let s = c .before .before .before .before .before .before in
     let a = s .args in
-    let r = c .before .axis-row2 in λ m held.
-    c .sought2 .ensures m held
-    (axis-z (a .kind) (a .q) (a .z .l) (r .result .now) (m .frame) (c .before .before .before .enum-told3 .given .1) (r .ensures .1 (m .frame) (m .sketch) (frames-held (s .args .z) (s .args .s .now) (s .pre .0) m (held .stored))))
+    let r = c .before .axis-row2 in (
+      c .sought2 .ensures .0,
+      λ m held.
+          c .sought2 .ensures .1 m held
+          (axis-z (a .kind) (a .q) (a .z .l) (r .result .now) (m .frame) (c .before .before .before .enum-told3 .given .1) (r .ensures .1 (m .frame) (m .sketch) (frames-held (s .args .z) (s .args .s .now) (s .pre .0) m (held .stored)))),
+    )
 
 returns-5 : tie.Need-returns-5
 returns-5 c =
     let s = c .before .before .before .before .before .before in
     let a = s .args in
-    let r = c .before .axis-row3 in λ m held.
-    c .sought3 .ensures m held
-    (axis-p (a .kind) (a .q) (a .z .l) (r .result .now) (m .frame) (c .before .before .before .enum-told4 .given .1) (r .ensures .1 (m .frame) (m .sketch) (frames-held (s .args .z) (s .args .s .now) (s .pre .0) m (held .stored))))
+    let r = c .before .axis-row3 in (
+      c .sought3 .ensures .0,
+      λ m held.
+          c .sought3 .ensures .1 m held
+          (axis-p (a .kind) (a .q) (a .z .l) (r .result .now) (m .frame) (c .before .before .before .enum-told4 .given .1) (r .ensures .1 (m .frame) (m .sketch) (frames-held (s .args .z) (s .args .s .now) (s .pre .0) m (held .stored)))),
+    )
 
 pub sought-kind-spec : {M : Type 1} → statement M
 sought-kind-spec =

@@ -1,7 +1,8 @@
 -- `seeking::looks::wide_y` meets its contract: the row fits. Assumes nothing.
 use mathlib.Core.Path.{sym}
 use Prim.Native.Nat.{_+_, _*_}
-use Rattle.seeking.proofs.SeekLaws.{planes-small, first-zeros}
+use Rattle.store.proofs.LentLaws.{planes-small}
+use Rattle.seeking.proofs.SeekLaws.{first-zeros}
 use native.Mathlib.Omega.{arith}
 use borrow.Author.Needs.{needs}
 use Rattle.seeking.proofs.looks.wide_y.Statement.{statement}

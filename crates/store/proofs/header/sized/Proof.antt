@@ -2,7 +2,6 @@
 use mathlib.Core.Path.{refl}
 use Prim.Native.Nat.{_+_, _*_, _≤_}
 use lib.ListN.{getD}
-use Rattle.history.specs.Words.{historyRoom}
 use Rattle.history.specs.Sizes.{formOf}
 use Rattle.store.proofs.SizeLaws.{no-event, many-events, many-steps, history-missing, framing-planes, fit-of, frame-small, room-small}
 use native.Mathlib.Omega.{arith}

@@ -10,12 +10,6 @@ use native.Mathlib.Omega.{arith}
 use borrow.Author.Needs.{needs}
 use Rattle.store.proofs.opening.begin.Statement.{statement}
 use Rattle.store.proofs.opening.begin.Tie as tie
-use Rattle.store.proofs.opening.begin.Reads as reads
-use Rattle.store.proofs.opening.begin.Lts as lts
-use Rattle.frame.proofs.opening.fresh.Reads as opening-fresh-reads
-use Rattle.history.proofs.opening.fresh.Reads as opening-fresh-reads′
-use Rattle.store.proofs.header.history_room.Reads as history-room-reads
-use Rattle.store.proofs.opening.stamp.Reads as stamp-reads
 
 -- the sizes are those of an accepted opening
 sizes : (c : tie.Start) → Begins (c .args .n) (c .args .cap) (formOf (c .args .form)) (c .args .labels .now) (length (c .args .s .now))

@@ -1,11 +1,8 @@
 -- `store::opening::form_code` meets its contract. Assumes nothing.
 use Rattle.store.proofs.OpenLaws.{code-scalar, code-sliced}
-use native.Mathlib.Omega.{arith}
 use borrow.Author.Needs.{needs}
 use Rattle.store.proofs.opening.form_code.Statement.{statement}
 use Rattle.store.proofs.opening.form_code.Tie as tie
-use Rattle.store.proofs.opening.form_code.Reads as reads
-use Rattle.store.proofs.opening.form_code.Lts as lts
 
 enum-told : tie.Need-enum-told
 enum-told c = search needs

@@ -1,14 +1,9 @@
 -- `store::opening::open` meets its contract: it refuses as `openNumber` says, before anything is written. Assumes nothing.
 use Rattle.history.specs.Sizes.{formOf}
 use Rattle.store.proofs.OpenLaws.{number-zero, refuses, opens-it}
-use native.Mathlib.Omega.{arith}
 use borrow.Author.Needs.{needs}
 use Rattle.store.proofs.opening.open.Statement.{statement}
 use Rattle.store.proofs.opening.open.Tie as tie
-use Rattle.store.proofs.opening.open.Reads as reads
-use Rattle.store.proofs.opening.open.Lts as lts
-use Rattle.store.proofs.opening.begin.Reads as begin-reads
-use Rattle.store.proofs.opening.open_number.Reads as open-number-reads
 
 open-number-requires : tie.Need-open-number-requires
 open-number-requires c κs = search needs

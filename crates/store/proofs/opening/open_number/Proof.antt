@@ -9,10 +9,6 @@ use native.Mathlib.Omega.{arith}
 use borrow.Author.Needs.{needs}
 use Rattle.store.proofs.opening.open_number.Statement.{statement}
 use Rattle.store.proofs.opening.open_number.Tie as tie
-use Rattle.store.proofs.opening.open_number.Reads as reads
-use Rattle.store.proofs.opening.open_number.Lts as lts
-use Rattle.store.proofs.header.history_room.Reads as history-room-reads
-use Rattle.store.proofs.opening.too_wide.Reads as too-wide-reads
 
 returns : tie.Need-returns
 returns c =

@@ -6,9 +6,6 @@ use native.Mathlib.Omega.{arith}
 use borrow.Author.Needs.{needs}
 use Rattle.store.proofs.opening.stamp.Statement.{statement}
 use Rattle.store.proofs.opening.stamp.Tie as tie
-use Rattle.store.proofs.opening.stamp.Reads as reads
-use Rattle.store.proofs.opening.stamp.Lts as lts
-use Rattle.store.proofs.opening.form_code.Reads as form-code-reads
 
 slice-write-s : tie.Need-slice-write-s
 slice-write-s c = search needs

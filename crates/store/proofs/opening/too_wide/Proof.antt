@@ -1,11 +1,8 @@
 -- `store::opening::too_wide` meets its contract. Assumes nothing.
 use Rattle.store.proofs.OpenLaws.{wide-scalar, wide-sliced}
-use native.Mathlib.Omega.{arith}
 use borrow.Author.Needs.{needs}
 use Rattle.store.proofs.opening.too_wide.Statement.{statement}
 use Rattle.store.proofs.opening.too_wide.Tie as tie
-use Rattle.store.proofs.opening.too_wide.Reads as reads
-use Rattle.store.proofs.opening.too_wide.Lts as lts
 
 enum-told : tie.Need-enum-told
 enum-told c = search needs
