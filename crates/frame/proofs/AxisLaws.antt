@@ -15,16 +15,16 @@ use Rattle.model.specs.Pauli.{Pauli, count, quarter, signOf, sign, times, shift
 use Rattle.model.specs.Frame.{Rows, xAt, zAt, axis, kindY, paulis}
 use Rattle.model.specs.Sketch.{Label, labelXor, labels}
 use Rattle.model.specs.Demands.{IsSign}
-use lib.IntN.{ℤ}
+use lib.IntN.{ℤ, pos, negsuc}
 use Rattle.pauli.specs.declared.rows.Signum.{Signum}
-use Rattle.pauli.specs.declared.rows.Signum.the-variants.{Is}
+use Rattle.pauli.specs.declared.rows.Signum.the-variants.{Is, No}
 use Rattle.pauli.specs.Rows.{value, valueAt, xOf, zOf, ofRow, answer}
 use Rattle.pauli.proofs.Words.{rest-part, rest-length, x-plane, z-plane}
 use Rattle.pauli.proofs.RowLaws.{value-part, value-xor}
 use Rattle.frame.specs.Places.{Sized, rowPlace, labelPlace, IsRow, IsLabel, rowOf, Held}
 use Rattle.frame.specs.Axes.{stride, Reaches, rowWords, either, axisOf, SignOrNone, Both, kindOf, tagOf}
 use Rattle.frame.specs.declared.axes.Kind.{Kind}
-use Rattle.frame.specs.declared.axes.Kind.the-variants.{X, Y}
+use Rattle.frame.specs.declared.axes.Kind.the-variants.{X, Y, Z, P}
 use Rattle.frame.specs.declared.axes.Tag.{Tag}
 use Rattle.frame.proofs.RowedLaws.{at-x, at-z, row-fits, same-row}
 
@@ -283,3 +283,33 @@ sign-or-none p = go (quarter p)
 -- where a sign is told it is one, whatever the words are
 pub is-signed : (r : Signum) (g : ℤ) → SignOrNone r → r ≡ Is g → IsSign g
 is-signed r g h e = rw e at h
+
+-- the sign that is told of a row that has one is its sign
+pub is-sign : (a g : ℤ) → IsSign a → Is g ≡ answer a → g ≡ a
+unfolding answer
+is-sign a g (inl e) h = let k : Is g ≡ Is (pos 1) = h ∙ ap answer e in cc
+is-sign a g (inr e) h = let k : Is g ≡ Is (negsuc 0) = h ∙ ap answer e in cc
+
+pub some-sign : (a : ℤ) → IsSign a → No ≡ answer a → ⊥
+unfolding answer
+some-sign a (inl e) h = let k : No ≡ Is (pos 1) = h ∙ ap answer e in let q : _≡_ {A = ℕ} 0 1 = cc in omega (arith, q)
+some-sign a (inr e) h = let k : No ≡ Is (negsuc 0) = h ∙ ap answer e in let q : _≡_ {A = ℕ} 0 1 = cc in omega (arith, q)
+
+-- ---- the axis of a kind, where the code found the kind
+
+module _ (kind : Kind) (q l : ℕ) (row : List ℕ) (f : Rows Pauli) where
+  pub axis-x : kind ≡ X → IsRow l row 0 (axisOf true f q) → IsRow l row 0 (axis paulis (kindOf kind) q f)
+  unfolding axisOf either axis kindOf
+  axis-x e i = subst (λ (k : Kind). IsRow l row 0 (axis paulis (kindOf k) q f)) (sym e) i
+
+  pub axis-y : kind ≡ Y → IsRow l row 0 (axis paulis kindY q f) → IsRow l row 0 (axis paulis (kindOf kind) q f)
+  unfolding kindOf
+  axis-y e i = subst (λ (k : Kind). IsRow l row 0 (axis paulis (kindOf k) q f)) (sym e) i
+
+  pub axis-z : kind ≡ Z → IsRow l row 0 (axisOf false f q) → IsRow l row 0 (axis paulis (kindOf kind) q f)
+  unfolding axisOf either axis kindOf
+  axis-z e i = subst (λ (k : Kind). IsRow l row 0 (axis paulis (kindOf k) q f)) (sym e) i
+
+  pub axis-p : kind ≡ P → IsRow l row 0 (axisOf false f q) → IsRow l row 0 (axis paulis (kindOf kind) q f)
+  unfolding axisOf either axis kindOf
+  axis-p e i = subst (λ (k : Kind). IsRow l row 0 (axis paulis (kindOf k) q f)) (sym e) i

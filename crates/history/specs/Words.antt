@@ -46,7 +46,7 @@ countPlace cap l = alivePlace cap l + words cap
 abbrev pub listPlace : Form → (n cap l : ℕ) → ℕ
 listPlace f n cap l = countPlace cap l + 2 * listCount f n
 
--- the words of one list, as `lists` lays it out (`model`'s `listRoom`, by `list-room`)
+-- the words of one list, as `lists` lays it out (`need-is` of `store` says that all rooms together are `model`'s need)
 unfoldable pub listSize : Form → (n cap : ℕ) → ℕ
 listSize scalar n cap = cap
 listSize sliced n cap = slicedRoom cap n

@@ -6,8 +6,7 @@ use mathlib.Core.List.{List}
 use Prim.Native.Nat.{ℕ, zero, suc, _+_, _≤_, _<_}
 use native.Mathlib.Nat.{add-zero}
 use native.Mathlib.Omega.{arith}
-use lib.ListN.{length, getD, take, replicate, length-replicate}
-use lib.Seq.{length-take-le}
+use lib.ListN.{length, getD}
 use Rattle.model.specs.Events.{Form, State, recordAll}
 use Rattle.model.specs.Calls.{answerTo, answer, refused, recorded, replyOf}
 use Rattle.history.specs.Words.{historyRoom}
@@ -55,10 +54,6 @@ few-records (Measure q) = omega arith
 few-records (Reset q) = omega arith
 few-records (Ccx a b t) = omega arith
 few-records (Ccz a b t) = omega arith
-
--- the first k words of a cleared row
-pub zeros-length : (k n : ℕ) → k ≤ n → length {A = ℕ} (take k (replicate n 0)) ≡ k
-zeros-length k n h = length-take-le {A = ℕ} k (replicate n 0) (omega (arith, length-replicate {A = ℕ} n 0))
 
 -- ---- the history's first word
 

@@ -1,11 +1,11 @@
 -- Laws of records on a store: the parts that are lent for them, one record, and several in a row. Assumes nothing.
 use mathlib.Core.Path.{_≡_, refl, sym, ap, _∙_, subst}
-use mathlib.Core.Logic.{inl, inr}
+use mathlib.Core.Logic.{inl}
 use mathlib.Core.Bool.{Bool, true, false, not, true≢false}
 use mathlib.Core.List.{List, [], _∷_, map}
 use Prim.Native.Nat.{ℕ, zero, suc, _+_, _-_, _*_, _≤_, _<_}
 use native.Mathlib.Omega.{arith}
-use lib.IntN.{ℤ, pos, negsuc}
+use lib.IntN.{ℤ}
 use lib.ListN.{length, getD, take, drop}
 use lib.Seq.{length-take-le, take-all}
 use Rattle.model.specs.Pauli.{Pauli, times, sign}
@@ -39,6 +39,7 @@ use Rattle.store.specs.Checks.{Fit}
 use Rattle.store.proofs.Splice.{splice, splice-length, splice-out}
 use Rattle.store.proofs.SizeLaws.{Own, own}
 use Rattle.store.proofs.StoreLaws.{history-at, recorded-to, stored-then}
+use Rattle.frame.proofs.AxisLaws.{is-sign, some-sign}
 use Rattle.store.proofs.LentLaws.{room-is, lent-is, frames-held}
 use Rattle.marking.specs.Axes.{Sets}
 use Rattle.marking.specs.Marks.{axisWords, rotationAbout, blockerAt, productAt, products, Puts, Records}
@@ -133,17 +134,6 @@ small-seven n a b t (suc (suc (suc (suc (suc (suc (suc i))))))) h ha hb ht = abs
 -- a sign as a record wants it
 pub bits-sign : (g : ℤ) → IsSign g → IsSign (bits8 g)
 bits-sign g h = subst IsSign (sym (bits8-sign g h)) h
-
--- a sign that is told is the sign
-is-sign : (a g : ℤ) → IsSign a → Is g ≡ answer a → g ≡ a
-unfolding answer
-is-sign a g (inl e) h = let k : Is g ≡ Is (pos 1) = h ∙ ap answer e in cc
-is-sign a g (inr e) h = let k : Is g ≡ Is (negsuc 0) = h ∙ ap answer e in cc
-
-some-sign : (a : ℤ) → IsSign a → No ≡ answer a → ⊥
-unfolding answer
-some-sign a (inl e) h = let k : No ≡ Is (pos 1) = h ∙ ap answer e in let q : _≡_ {A = ℕ} 0 1 = cc in omega (arith, q)
-some-sign a (inr e) h = let k : No ≡ Is (negsuc 0) = h ∙ ap answer e in let q : _≡_ {A = ℕ} 0 1 = cc in omega (arith, q)
 
 module _ (z : Sizes) (s row : List ℕ) (f : Fit z s) (long : length row ≡ 2 * z .l + 1) where
   block-records : (t : List ℕ) (r : Bool) (p : State → Pauli) → ((m : State) → Stored m s → Sets (z .l) row (p m)) → ((m : State) → Good m → Small (m .given .n) (p m))

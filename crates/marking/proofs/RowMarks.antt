@@ -11,14 +11,11 @@ use lib.Dec.{eqb}
 use lib.ListN.{length, getD, set, length-set}
 use lib.Seq.{getD-set-same, getD-set-other}
 use Rattle.model.specs.Pauli.{Pauli, times, plain}
-use Rattle.model.specs.Frame.{Rows, axis, kindY, paulis}
+use Rattle.model.specs.Frame.{paulis}
 use Rattle.model.specs.Calls.{seven}
 use Rattle.pauli.specs.Rows.{valueAt}
 use Rattle.pauli.specs.Fill.{Written}
 use Rattle.frame.specs.Places.{IsRow}
-use Rattle.frame.specs.Axes.{axisOf, kindOf}
-use Rattle.frame.specs.declared.axes.Kind.{Kind}
-use Rattle.frame.specs.declared.axes.Kind.the-variants.{Y}
 use Rattle.frame.proofs.RowedLaws.{same-row}
 use Rattle.marking.specs.Axes.{Sets}
 
@@ -29,16 +26,6 @@ copied-row l s row t p e m =
     same-row l row t 0 0 p (λ i h.
     let g : i < length row = omega arith in
     m .here i g ∙ ap (λ (j : ℕ). getD row j 0) (sym (zero-add i)))
-
--- the axis of a kind that is a row of the frame
-pub kind-row : (l q : ℕ) (s : List ℕ) (r : Rows Pauli) (of-x : Bool) (kind m : Kind) → kind ≡ m → axisOf of-x r q ≡ axis paulis (kindOf m) q r
-    → IsRow l s 0 (axisOf of-x r q) → IsRow l s 0 (axis paulis (kindOf kind) q r)
-kind-row l q s r of-x kind m e f i =
-    subst (λ (k : Kind). IsRow l s 0 (axis paulis (kindOf k) q r)) (sym e) (subst (IsRow l s 0) f i)
-
-pub y-kind : (l q : ℕ) (s : List ℕ) (r : Rows Pauli) (kind : Kind) → kind ≡ Y → IsRow l s 0 (axis paulis kindY q r) → IsRow l s 0 (axis paulis (kindOf kind) q r)
-unfolding kindOf
-y-kind l q s r kind e i = subst (λ (k : Kind). IsRow l s 0 (axis paulis (kindOf k) q r)) (sym e) i
 
 -- ---- rows joined
 

@@ -1,13 +1,11 @@
 -- The parts of a slice as the code lends them, and each way in which a kill, a clear, a read and a look end: for the functions of this crate.
 -- Assumes nothing.
 use mathlib.Core.Path.{_≡_, refl, sym, ap, _∙_, subst}
-use mathlib.Core.Logic.{inl, inr}
 use mathlib.Core.Bool.{Bool, true, false, cond}
 use mathlib.Core.List.{List, [], _∷_}
 use Prim.Native.Nat.{ℕ, _+_, _-_, _*_, _^_, _≤_, _<_}
 use native.Mathlib.Omega.{arith}
-use lib.ListN.{length, getD, take, replicate, length-replicate}
-use lib.Seq.{length-take-le}
+use lib.ListN.{length, getD}
 use lib.IntN.{ℤ}
 use mir.Syntax.{w8}
 use mir.Val.{SFits}
@@ -31,11 +29,11 @@ use Rattle.pauli.proofs.Signs.{bits8, bits8-sign}
 use Rattle.pauli.proofs.Words.{rest-length}
 use Rattle.frame.specs.Places as frames
 use Rattle.frame.specs.Places.{IsRow}
-use Rattle.frame.specs.Axes.{either, axisOf, kindOf, tagOf}
+use Rattle.frame.specs.Axes.{kindOf, tagOf}
 use Rattle.frame.specs.declared.axes.Kind.{Kind}
 use Rattle.frame.specs.declared.axes.Kind.the-variants as kinds
 use Rattle.frame.specs.declared.axes.Tag.{Tag}
-use Rattle.frame.proofs.AxisLaws.{behind, row-behind}
+use Rattle.frame.proofs.AxisLaws.{behind, row-behind, is-sign, some-sign}
 use Rattle.history.specs.Words.{Holds, Sane, Becomes}
 use Rattle.history.specs.Sizes as history
 use Rattle.history.specs.Sizes.{formOf}
@@ -248,18 +246,6 @@ look-sight (none n) = refl
 look-sight (blocked n) = refl
 look-sight (out n) = refl
 
--- what is answered for a sign is that sign
-answer-sign : (g : ℤ) → IsSign g → rows.answer g ≡ signum.Is g
-unfolding rows.answer
-answer-sign g (inl e) = ap rows.answer e ∙ ap signum.Is (sym e)
-answer-sign g (inr e) = ap rows.answer e ∙ ap signum.Is (sym e)
-
-is-none : (g : ℤ) → signum.Is g ≡ signum.No → ⊥
-is-none g e = let y : _≡_ {A = ℕ} 0 1 = cc in omega arith
-
-is-one : (g h : ℤ) → signum.Is g ≡ signum.Is h → g ≡ h
-is-one g h e = cc
-
 same-look : (m : State) (g h : ℤ) (a b : Label) (x y u w : ℕ) → g ≡ h → a ≡ b → x ≡ y → u ≡ w → lookFor m g a x u ≡ lookFor m h b y w
 same-look m g h a b x y u w e f i j = rw (e, f, i, j) refl
 
@@ -275,12 +261,9 @@ module _ (z : Sizes) (s : List ℕ) (fit : Fit z s) (kind : model.Kind) (q : ℕ
       let l : q < m .given .n = omega (arith, inside, own z m s fit (h .stored) .qubits) in
       has-sign (axis paulis kind q (m .frame)) (even-axis (m .given .n) (m .frame) kind q (held-good m s h .sound) l)
 
-  row-signed : (m : State) → Held m s → IsRow (z .l) row 0 (axis paulis kind q (m .frame)) → r ≡ signum.Is (sign (axis paulis kind q (m .frame)))
-  row-signed m h i = signs (z .l) (axis paulis kind q (m .frame)) long i ∙ answer-sign (sign (axis paulis kind q (m .frame))) (axis-signed m h)
-
   -- "0 gives +1, 2 gives -1, and 1 or 3 never occurs": a row without a sign is none of a state's
   pub sought-none : r ≡ signum.No → (a : Reply) (m : State) → Held m s → IsRow (z .l) row 0 (axis paulis kind q (m .frame)) → a ≡ looked (look kind q m)
-  sought-none e a m h i = absurd (is-none (sign (axis paulis kind q (m .frame))) (sym (row-signed m h i) ∙ e))
+  sought-none e a m h i = absurd (some-sign (sign (axis paulis kind q (m .frame))) (axis-signed m h) (sym e ∙ signs (z .l) (axis paulis kind q (m .frame)) long i))
 
   pub sought-seen : (g : ℤ) → IsSign g → r ≡ signum.Is g
       → (t : Tag) → ((f : Rows Pauli) (k : Rows Label) → frames.Held (z .n) (z .l) f k (lentFrames z s) → tagOf t ≡ axis labels kind q k)
@@ -298,37 +281,13 @@ module _ (z : Sizes) (s : List ℕ) (fit : Fit z s) (kind : model.Kind) (q : ℕ
       let b = within-axis (m .given .n) kind q (m .frame) (held-good m s h .within) in
       let x-small : ofRow 0 (behind 1 row) .x < 2 ^ z .n = subst (λ (k : ℕ). ofRow 0 (behind 1 row) .x < 2 ^ k) (o .qubits) (subst (λ (k : ℕ). k < 2 ^ m .given .n) (sym x-same) (b .x-small)) in
       let z-small : ofRow 0 (behind 1 row) .z < 2 ^ z .n = subst (λ (k : ℕ). ofRow 0 (behind 1 row) .z < 2 ^ k) (o .qubits) (subst (λ (k : ℕ). k < 2 ^ m .given .n) (sym z-same) (b .z-small)) in
-      let g-same : bits8 g ≡ sign p = bits8-sign g signed ∙ is-one g (sign p) (sym e ∙ row-signed m h i) in
+      let g-same : bits8 g ≡ sign p = bits8-sign g signed ∙ is-sign (sign p) g (axis-signed m h) (sym e ∙ signs (z .l) p long i) in
       let l-same : labelOf (t .high) (t .low) ≡ axis labels kind q (m .sketch) = tags (m .frame) (m .sketch) (frames-held z s fit m (h .stored)) in
       ap sightOf (seen-is m (lent-holds z s fit m (h .stored)) (held-sane m s h) (o .allowance) x-small z-small)
       ∙ look-sight (lookFor m (bits8 g) (labelOf (t .high) (t .low)) (ofRow 0 (behind 1 row) .x) (ofRow 0 (behind 1 row) .z))
       ∙ ap looked
       (same-look m (bits8 g) (sign p) (labelOf (t .high) (t .low)) (axis labels kind q (m .sketch)) (ofRow 0 (behind 1 row) .x) (p .x) (ofRow 0 (behind 1 row) .z) (p .z)
       g-same l-same x-same z-same)
-
--- the first words of a row of its own
-abbrev pub zeros : ℕ → List ℕ
-zeros n = let o : ℕ = 0 in replicate n o
-
-pub first-zeros : (n k : ℕ) → k ≤ n → length (take k (zeros n)) ≡ k
-first-zeros n k h = length-take-le k (zeros n) (omega (arith, h, zeros-length))
-  where
-    zeros-length : length (zeros n) ≡ n
-    zeros-length = length-replicate n _
-
--- the rows x[q] and z[q] are the axes of the kinds x, z and p
-module _ (kind : Kind) (q l : ℕ) (row : List ℕ) (f : Rows Pauli) where
-  pub axis-x : kind ≡ kinds.X → IsRow l row 0 (axisOf true f q) → IsRow l row 0 (axis paulis (kindOf kind) q f)
-  unfolding axisOf either axis kindOf
-  axis-x e i = subst (λ (k : Kind). IsRow l row 0 (axis paulis (kindOf k) q f)) (sym e) i
-
-  pub axis-z : kind ≡ kinds.Z → IsRow l row 0 (axisOf false f q) → IsRow l row 0 (axis paulis (kindOf kind) q f)
-  unfolding axisOf either axis kindOf
-  axis-z e i = subst (λ (k : Kind). IsRow l row 0 (axis paulis (kindOf k) q f)) (sym e) i
-
-  pub axis-p : kind ≡ kinds.P → IsRow l row 0 (axisOf false f q) → IsRow l row 0 (axis paulis (kindOf kind) q f)
-  unfolding axisOf either axis kindOf
-  axis-p e i = subst (λ (k : Kind). IsRow l row 0 (axis paulis (kindOf k) q f)) (sym e) i
 
 pub look-y : (kind : Kind) (q : ℕ) (a : Reply) (m : State) → kind ≡ kinds.Y → a ≡ looked (look model.kindY q m) → a ≡ looked (look (kindOf kind) q m)
 unfolding kindOf

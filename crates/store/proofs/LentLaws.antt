@@ -4,7 +4,8 @@ use mathlib.Core.Path.{_≡_, sym, ap, ap₂, _∙_, subst}
 use mathlib.Core.List.{List}
 use Prim.Native.Nat.{ℕ, _+_, _-_, _≤_}
 use native.Mathlib.Omega.{arith}
-use lib.ListN.{length, take, drop}
+use lib.ListN.{length, take, drop, replicate, length-replicate}
+use lib.Seq.{length-take-le}
 use Rattle.model.specs.Events.{State}
 use Rattle.model.proofs.Good.{Good}
 use Rattle.frame.specs.Places as frames
@@ -103,3 +104,14 @@ module _ (z : Sizes) (s : List ℕ) (fit : Fit z s) (ys : List ℕ) where
   pub as-history : (m : State) → Becomes (formOf (z .form)) (z .n) (z .cap) (z .l) m (lent z s) ys
       → Becomes (formOf (z .form)) (z .n) (z .cap) (z .l) m (historyPart (formOf (z .form)) (z .n) (z .cap) (z .l) s) ys
   as-history m q = subst (λ (t : List ℕ). Becomes (formOf (z .form)) (z .n) (z .cap) (z .l) m t ys) (lent-is z s fit) q
+
+-- ---- a row of the function's own, of which the first words are lent
+
+abbrev pub zeros : ℕ → List ℕ
+zeros n = let o : ℕ = 0 in replicate n o
+
+pub first-zeros : (n k : ℕ) → k ≤ n → length (take k (zeros n)) ≡ k
+first-zeros n k h = length-take-le k (zeros n) (omega (arith, h, zeros-length))
+  where
+    zeros-length : length (zeros n) ≡ n
+    zeros-length = length-replicate n _

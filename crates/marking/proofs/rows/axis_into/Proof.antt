@@ -1,10 +1,8 @@
 -- `marking::rows::axis_into` meets its contract: a row of the frame, or the product of both. Assumes nothing.
 use mathlib.Core.Path.{refl}
-use mathlib.Core.Bool.{true, false}
 use Rattle.model.specs.Frame.{axis}
 use Rattle.frame.specs.Axes.{axisOf, either, kindOf}
-use Rattle.frame.specs.declared.axes.Kind.the-variants.{X, Z, P}
-use Rattle.marking.proofs.RowMarks.{kind-row, y-kind}
+use Rattle.frame.proofs.AxisLaws.{axis-x, axis-y, axis-z, axis-p}
 use borrow.Author.Needs.{needs}
 use Rattle.marking.proofs.rows.axis_into.Statement.{statement}
 use Rattle.marking.proofs.rows.axis_into.Tie as tie
@@ -42,7 +40,7 @@ returns c = λ r k held.
     let row = c .before .before in
     let s = row .before .before .before .before .before .before in
     let a = s .args in
-    (refl, kind-row (a .l) (a .q) (row .row-into .last .1 .1 .1 .1 .1 .0) r true (a .kind) X (row .before .before .enum-told .given .1) refl (row .row-into .ensures r k held))
+    (refl, axis-x (a .kind) (a .q) (a .l) (row .row-into .last .1 .1 .1 .1 .1 .0) r (row .before .before .enum-told .given .1) (row .row-into .ensures r k held))
 
 same-length-2 : tie.Need-same-length-2
 same-length-2 c = search needs
@@ -53,7 +51,7 @@ returns-2 c = λ r k held.
     let s = row .before .before .before .before .before .before in
     let a = s .args in
     let w = row .y-product .ensures .1 r k held in
-    (w .0, y-kind (a .l) (a .q) (row .y-product .last .1 .1 .1 .1 .0) r (a .kind) (row .before .before .enum-told2 .given .1) (w .1))
+    (w .0, axis-y (a .kind) (a .q) (a .l) (row .y-product .last .1 .1 .1 .1 .0) r (row .before .before .enum-told2 .given .1) (w .1))
 
 same-length-3 : tie.Need-same-length-3
 same-length-3 c = search needs
@@ -64,7 +62,7 @@ returns-3 c = λ r k held.
     let row = c .before .before in
     let s = row .before .before .before .before .before .before in
     let a = s .args in
-    (refl, kind-row (a .l) (a .q) (row .row-into2 .last .1 .1 .1 .1 .1 .0) r false (a .kind) Z (row .before .before .enum-told3 .given .1) refl (row .row-into2 .ensures r k held))
+    (refl, axis-z (a .kind) (a .q) (a .l) (row .row-into2 .last .1 .1 .1 .1 .1 .0) r (row .before .before .enum-told3 .given .1) (row .row-into2 .ensures r k held))
 
 same-length-4 : tie.Need-same-length-4
 same-length-4 c = search needs
@@ -75,7 +73,7 @@ returns-4 c = λ r k held.
     let row = c .before .before in
     let s = row .before .before .before .before .before .before in
     let a = s .args in
-    (refl, kind-row (a .l) (a .q) (row .row-into3 .last .1 .1 .1 .1 .1 .0) r false (a .kind) P (row .before .before .enum-told4 .given .1) refl (row .row-into3 .ensures r k held))
+    (refl, axis-p (a .kind) (a .q) (a .l) (row .row-into3 .last .1 .1 .1 .1 .1 .0) r (row .before .before .enum-told4 .given .1) (row .row-into3 .ensures r k held))
 
 pub axis-into-spec : {M : Type 1} → statement M
 axis-into-spec =

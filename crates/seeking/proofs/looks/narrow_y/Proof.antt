@@ -1,7 +1,7 @@
 -- `seeking::looks::narrow_y` meets its contract: the row fits. Assumes nothing.
 use mathlib.Core.Path.{sym}
 use Prim.Native.Nat.{_+_, _*_}
-use Rattle.seeking.proofs.SeekLaws.{first-zeros}
+use Rattle.store.proofs.LentLaws.{first-zeros}
 use native.Mathlib.Omega.{arith}
 use borrow.Author.Needs.{needs}
 use Rattle.seeking.proofs.looks.narrow_y.Statement.{statement}

@@ -1,7 +1,8 @@
 -- `seeking::looks::sought_kind` meets its contract, by the kinds. Assumes nothing.
 use Rattle.store.specs.Promises.{toldLook}
 use Rattle.store.proofs.LentLaws.{frames-held}
-use Rattle.seeking.proofs.SeekLaws.{axis-x, axis-z, axis-p, look-y}
+use Rattle.frame.proofs.AxisLaws.{axis-x, axis-z, axis-p}
+use Rattle.seeking.proofs.SeekLaws.{look-y}
 use borrow.Author.Needs.{needs}
 use Rattle.seeking.proofs.looks.sought_kind.Statement.{statement}
 use Rattle.seeking.proofs.looks.sought_kind.Tie as tie

@@ -2,7 +2,7 @@
 use mathlib.Core.Path.{sym}
 use Prim.Native.Nat.{_+_, _*_}
 use Rattle.store.proofs.LentLaws.{planes-small}
-use Rattle.seeking.proofs.SeekLaws.{first-zeros}
+use Rattle.store.proofs.LentLaws.{first-zeros}
 use native.Mathlib.Omega.{arith}
 use borrow.Author.Needs.{needs}
 use Rattle.seeking.proofs.looks.wide_y.Statement.{statement}
