@@ -5,7 +5,7 @@ use mathlib.Core.Logic.{_≢_, inl, inr, ⊎-elim}
 use mathlib.Core.Bool.{Bool, true, false, cond, not}
 use mathlib.Core.List.{List, [], _∷_, _++_, map, append-nil}
 use Prim.Native.Nat.{ℕ, zero, suc, _+_, _-_, _*_, _/_, _^_, _≤_, _<_, suc-le-suc}
-use native.Mathlib.Nat.{not-suc-le-zero, le-of-suc-le-suc, zero-lt-suc, add-zero, zero-add, lt-irrefl, div-lt-iff-lt-mul}
+use native.Mathlib.Nat.{not-suc-le-zero, le-of-suc-le-suc, zero-lt-suc, zero-add, lt-irrefl, div-lt-iff-lt-mul}
 use native.Mathlib.Omega.{arith}
 use native.Mathlib.Decide.{ℕ-discrete}
 use lib.ListN.{length, getD, set, length-set, length-map}
@@ -16,13 +16,13 @@ use lib.Dec.{eqb, ltb}
 use borrow.Author.Tests.{eq-eqb, ne-eqb, eqb-true, eqb-false}
 use Rattle.model.specs.Events as model
 use Rattle.model.specs.Pauli.{has}
-use Rattle.model.specs.Events.{Event, State, words, plane, keep, touches, eventAt, liveAt, push, record1, kill, killed, dead, factor, tidy}
+use Rattle.model.specs.Events.{Event, State, words, plane, keep, touches, eventAt, liveAt, record1, kill, killed, dead, factor, tidy}
 use Rattle.model.specs.Search.{listAt}
 use Rattle.model.specs.Store.{listCount}
 use Rattle.model.specs.Demands.{Mem, Rising, occurs, Share, Listed}
 use Rattle.model.proofs.Digits.{has-lt, on-two}
 use Rattle.model.proofs.Members.{mem-keep, keep-mem, keep-same, keep-none, keep-append, keep-yes, keep-no, length-keep}
-use Rattle.model.proofs.Lists.{ListsOk, at-old, at-new, gone, gone-at, gone-other, gone-x, gone-z, kill-list}
+use Rattle.model.proofs.Lists.{ListsOk, at-old, at-new, gone, gone-at, gone-other, gone-x, gone-z, kill-list, push-at, dead-old}
 use Rattle.pauli.specs.Rows.{valueAt, ofRow, signature}
 use Rattle.pauli.proofs.Digits.{three, has-ext}
 use Rattle.lists.specs.Lists.{Known, Rises, isLive, left, still, dropsAt}
@@ -190,18 +190,6 @@ list-short m k b = omega (arith, rising-few (listAt m b) 0 (length (m .events)) 
 
 -- ---- a record
 
-push-at : (l id : ℕ) (e : Event) (b : ℕ) (ls : List (List ℕ)) (c : ℕ) → c < length ls
-    → getD (push l id e b ls) c [] ≡ cond (touches l (e .x) (e .z) (b + c)) (getD ls c [] ++ (id ∷ [])) (getD ls c [])
-unfolding push
-push-at l id e b [] c h = absurd (not-suc-le-zero h)
-push-at l id e b (s ∷ ss) zero h = ap (λ (w : ℕ). cond (touches l (e .x) (e .z) w) (s ++ (id ∷ [])) s) (sym (add-zero b))
-push-at l id e b (s ∷ ss) (suc c) h =
-    push-at l id e (suc b) ss c (le-of-suc-le-suc h)
-    ∙ ap (λ (w : ℕ). cond (touches l (e .x) (e .z) w) (getD ss c [] ++ (id ∷ [])) (getD ss c [])) line
-  where
-    line : suc b + c ≡ b + suc c
-    line = omega arith
-
 module _ (m : State) (e : Event) where
   record-list : (b : ℕ) → b < length (m .lists)
       → listAt (record1 e m) b ≡ cond (touches (plane m) (e .x) (e .z) b) (listAt m b ++ (length (m .events) ∷ [])) (listAt m b)
@@ -216,8 +204,7 @@ module _ (m : State) (e : Event) where
 
   module _ (live : e .live ≡ true) (k : Listed m) (b : ℕ) (h : b < length (m .lists)) where
     old-dead : dead (m .events ++ (e ∷ [])) (listAt m b) ≡ dead (m .events) (listAt m b)
-    unfolding dead liveAt
-    old-dead = ap length (keep-same _ _ (listAt m b) (λ i g. ap (λ (w : Event). not (w .live)) (at-old (m .events) e i (k .events-only b i g))))
+    old-dead = dead-old (m .events) e (listAt m b) (k .events-only b)
 
     new-dead : dead (m .events ++ (e ∷ [])) (listAt m b ++ (length (m .events) ∷ [])) ≡ dead (m .events) (listAt m b)
     unfolding dead liveAt

@@ -19,11 +19,11 @@ use Rattle.pauli.specs.Rows.{ofRow, valueAt}
 use Rattle.lists.specs.Lists.{Rises, Known}
 use Rattle.sliced.specs.Blocks.{entryOf}
 use Rattle.lists.specs.Scans.{scanOf, Touched}
-use Rattle.support.specs.Families.{ScalarRooms, SlicedRooms, AllScannable, AllSliced}
+use Rattle.support.specs.Families.{AllScannable, AllSliced}
 use Rattle.lists.specs.declared.budget.Scan.{Scan}
 use Rattle.history.specs.declared.forms.Form.{Form}
 use Rattle.history.specs.declared.forms.Form.the-variants.{Scalar, Sliced}
-use Rattle.history.specs.Words.{axisPlace, sigPlace, countPlace, listPlace, listSize, historyRoom}
+use Rattle.history.specs.Words.{axisPlace, sigPlace, countPlace, listPlace, historyRoom}
 use Rattle.history.specs.Sizes.{formOf, Sized, ListsHeld, Scanned}
 use Rattle.history.proofs.FormLaws.{getD-mem, rises}
 use Rattle.history.proofs.AxisWords.{x-value, z-value}
@@ -71,24 +71,8 @@ module _ (f : model.Form) (n cap l : ℕ) (h : List ℕ) (sized : Sized f n cap 
   pub axes-inside : (events : ℕ) → events ≤ cap → axisPlace cap + events * (2 * l) ≤ length h
   axes-inside events le = omega (arith, mul-le-mul-right (2 * l) le, lists-inside)
 
-pub scalar-rooms : (n cap l : ℕ) (h : List ℕ) → Sized model.scalar n cap l h → ScalarRooms h (countPlace cap l) (countPlace cap l + 128) cap
-unfolding historyRoom listSize listCount
-scalar-rooms n cap l h s = record { counts = omega arith; fits = omega (arith, s .long) }
-
-pub sliced-rooms : (n cap l : ℕ) (h : List ℕ) → Sized model.sliced n cap l h → SlicedRooms h (countPlace cap l) (countPlace cap l + 2 * n) cap n
-unfolding historyRoom listSize listCount
-sliced-rooms n cap l h s = record { few = s .narrow .0; counts = omega arith; fits = omega (arith, s .long) }
-
 -- the form that the code has
 module _ (n cap l : ℕ) (h : List ℕ) (f : Form) where
-  pub sized-scalar : f ≡ Scalar → Sized (formOf f) n cap l h → Sized model.scalar n cap l h
-  unfolding formOf
-  sized-scalar e p = subst (λ (g : Form). Sized (formOf g) n cap l h) e p
-
-  pub sized-sliced : f ≡ Sliced → Sized (formOf f) n cap l h → Sized model.sliced n cap l h
-  unfolding formOf
-  sized-sliced e p = subst (λ (g : Form). Sized (formOf g) n cap l h) e p
-
   pub held-scalar : (m : State) → f ≡ Scalar → ListsHeld (formOf f) n cap l m h → ListsHeld model.scalar n cap l m h
   unfolding formOf
   held-scalar m e p = subst (λ (g : Form). ListsHeld (formOf g) n cap l m h) e p

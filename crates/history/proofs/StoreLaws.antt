@@ -9,7 +9,7 @@ use native.Mathlib.Omega.{arith}
 use native.Mathlib.Decide.{ℕ-discrete, decLt}
 use lib.ListN.{length, getD, set, length-set, List·getD-eq-default}
 use lib.Seq.{getD-set-same, getD-set-other}
-use lib.Pow.{pow-pos, pow-mono, field, mod-mod-pow}
+use lib.Pow.{pow-pos, pow-mono}
 use lib.IntN.{ℤ}
 use borrow.Author.Tests.{eqb-true, eqb-false}
 use Rattle.model.specs.Pauli.{has}
@@ -17,10 +17,10 @@ use Rattle.model.specs.Sketch.{Label}
 use Rattle.model.specs.Events.{Body, rotation, blocker, Event, words, noEvent, eventAt, liveAt}
 use Rattle.model.specs.Calls.{tagAt}
 use Rattle.model.proofs.Members.{clash}
-use Rattle.model.proofs.Lists.{at-old, at-new, length-new}
+use Rattle.model.proofs.Lists.{at-old, at-new, length-new, live-old}
 use Rattle.pauli.specs.Fill.{Written}
 use Rattle.pauli.specs.Rows.{valueAt, ofRow, signature}
-use Rattle.pauli.proofs.Digits.{three, has-past, has-add-same, has-add-other}
+use Rattle.pauli.proofs.Digits.{three, has-past, has-add-same, has-add-other, has-mod}
 use Rattle.pauli.proofs.RowLaws.{value-same}
 use Rattle.lists.specs.Lists.{Among, Only, liveIn}
 use Rattle.lists.specs.Scans as scans
@@ -47,13 +47,6 @@ unfolding bucketOf
 bucket-lt cap low h = omega (arith, half-times low cap h)
 
 -- ---- a bit of a word, with those above it cleared
-
-has-mod-at : (n i j : ℕ) → has (n % 2 ^ ((i + 1) + j)) j ≡ has n j
-unfolding has
-has-mod-at n i j = ap (λ (x : ℕ). x % 2) (field n (i + 1) j) ∙ mod-mod-pow (n / 2 ^ j) i 1
-
-has-mod : (k n j : ℕ) → j < k → has (n % 2 ^ k) j ≡ has n j
-has-mod k n j l = subst (λ (x : ℕ). has (n % 2 ^ x) j ≡ has n j) (omega arith) (has-mod-at n (k - suc j) j)
 
 module _ (w b : ℕ) where
   top-free : (j : ℕ) → b ≤ j → has (w % 2 ^ b) j ≡ 0
@@ -307,10 +300,6 @@ module _ (p q : ℕ → Bool) (id cap k : ℕ) (h g : List ℕ) (old : (i : ℕ)
   }
 
 module _ (cap l : ℕ) (es : List Event) (e : Event) (h g : List ℕ) (small : length es < cap) (v : e .live ≡ true) (p : Put cap l (length es) e h g) where
-  live-old : (i : ℕ) → i < length es → liveAt (es ++ (e ∷ [])) i ≡ liveAt es i
-  unfolding liveAt
-  live-old i b = ap (λ (w : Event). w .live) (at-old es e i b)
-
   live-new : liveAt (es ++ (e ∷ [])) (length es) ≡ true
   unfolding liveAt
   live-new = ap (λ (w : Event). w .live) (at-new es e) ∙ v
@@ -424,7 +413,7 @@ module _ (cap l : ℕ) (es : List Event) (e : Event) (h g : List ℕ) (small : l
     | yes d ↦ here i d (three (i % 64) (length es % 64))
     | no d ↦
         let t : i < length es = omega (arith, length-new es e) in
-        ap (λ (w : ℕ). has w (i % 64)) (kept-alive (i / 64) d) ∙ c i (omega arith) ∙ ap (λ (u : Bool). cond u 1 0) (sym (live-old i t))
+        ap (λ (w : ℕ). has w (i % 64)) (kept-alive (i / 64) d) ∙ c i (omega arith) ∙ ap (λ (u : Bool). cond u 1 0) (sym (live-old es e i t))
   ]
     where
       word : (i : ℕ) → i / 64 ≡ length es / 64 → liveIn g (alivePlace cap l) i ≡ has (getD h (alivePlace cap l + i / 64) 0 % 2 ^ (length es % 64) + 2 ^ (length es % 64)) (i % 64)
@@ -441,7 +430,7 @@ module _ (cap l : ℕ) (es : List Event) (e : Event) (h g : List ℕ) (small : l
           ∙ top-here (getD h (alivePlace cap l + i / 64) 0) (length es % 64) ∙ ap (λ (u : Bool). cond u 1 0) (sym (ap (liveAt (es ++ (e ∷ []))) s ∙ live-new))
       here i d (inr (inr t)) =
           let s : i < length es = omega arith in
-          word i d ∙ top-below (getD h (alivePlace cap l + i / 64) 0) (length es % 64) (i % 64) t ∙ c i (omega arith) ∙ ap (λ (u : Bool). cond u 1 0) (sym (live-old i s))
+          word i d ∙ top-below (getD h (alivePlace cap l + i / 64) 0) (length es % 64) (i % 64) t ∙ c i (omega arith) ∙ ap (λ (u : Bool). cond u 1 0) (sym (live-old es e i s))
 
   put-held : EventsHeld cap l es h → EventsHeld cap l (es ++ (e ∷ [])) g
   put-held c = record {

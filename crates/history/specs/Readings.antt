@@ -1,6 +1,6 @@
 -- What a read gives, as the code answers it. Assumes nothing.
 use Rattle.model.specs.Events as model
-use Rattle.model.specs.Calls.{Reading, reading}
+use Rattle.model.specs.Calls.{Reading}
 use Rattle.history.specs.declared.events.Told.{Told}
 use Rattle.history.specs.declared.events.Told.the-variants.{Says, Nothing}
 use Rattle.history.specs.declared.events.Body.{Body}

@@ -5,7 +5,7 @@ use mathlib.Core.Bool.{true}
 use mathlib.Core.List.{List, [], _∷_, _++_}
 use Prim.Native.Nat.{ℕ, _+_, _*_, _/_, _%_, _^_, _<_}
 use lib.ListN.{length, getD}
-use Rattle.model.specs.Events.{Event, words}
+use Rattle.model.specs.Events.{Event}
 use Rattle.model.specs.Demands.{IsSign}
 use Rattle.pauli.specs.Rows.{ofRow, signature}
 use Rattle.lists.specs.Lists.{Among, Only}

@@ -7,7 +7,6 @@ use Prim.Native.Nat.{ℕ, _+_, _*_, _/_, _%_, _≤_, _<_}
 use lib.ListN.{length, getD}
 use lib.Dec.{eqb, ltb}
 use Rattle.model.specs.Pauli.{has}
-use Rattle.model.specs.Events.{words}
 use Rattle.lists.specs.declared.places.Place.{Place}
 use Rattle.lists.specs.declared.places.Place.the-variants.{At, Lost}
 

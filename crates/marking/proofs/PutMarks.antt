@@ -17,7 +17,6 @@ use Rattle.model.specs.Demands.{IsSign, Small}
 use Rattle.model.proofs.Good.{Good, EventOk, AllOk, origin, axis-ok, seven-ok}
 use Rattle.model.proofs.Within.{small-times}
 use Rattle.pauli.specs.Rows.{answer}
-use Rattle.pauli.proofs.Signs.{bits8, bits8-sign}
 use Rattle.pauli.specs.declared.rows.Signum.{Signum}
 use Rattle.pauli.specs.declared.rows.Signum.the-variants.{Is, No}
 use Rattle.frame.specs.Places as frames
@@ -130,10 +129,6 @@ small-seven n a b t (suc (suc (suc (suc zero)))) h ha hb ht = small-times n a t 
 small-seven n a b t (suc (suc (suc (suc (suc zero))))) h ha hb ht = small-times n b t hb ht
 small-seven n a b t (suc (suc (suc (suc (suc (suc zero)))))) h ha hb ht = small-times n (times a b) t (small-times n a b ha hb) ht
 small-seven n a b t (suc (suc (suc (suc (suc (suc (suc i))))))) h ha hb ht = absurd (omega arith)
-
--- a sign as a record wants it
-pub bits-sign : (g : ℤ) → IsSign g → IsSign (bits8 g)
-bits-sign g h = subst IsSign (sym (bits8-sign g h)) h
 
 module _ (z : Sizes) (s row : List ℕ) (f : Fit z s) (long : length row ≡ 2 * z .l + 1) where
   block-records : (t : List ℕ) (r : Bool) (p : State → Pauli) → ((m : State) → Stored m s → Sets (z .l) row (p m)) → ((m : State) → Good m → Small (m .given .n) (p m))

@@ -3,7 +3,7 @@ use mathlib.Core.Path.{_≡_, refl, sym, ap, ap₂, _∙_, subst}
 use mathlib.Core.Bool.{Bool, true, false, cond}
 use mathlib.Core.List.{List}
 use Prim.Native.Nat.{ℕ, zero, suc, _+_, _*_, _/_, _%_, _^_, _≤_, _<_}
-use native.Mathlib.Nat.{zero-add, add-zero, add-suc, suc-add}
+use native.Mathlib.Nat.{zero-add}
 use native.Mathlib.Omega.{arith}
 use native.Mathlib.Decide.{ℕ-discrete}
 use lib.Bits.{bitXor, xor-block}
@@ -16,6 +16,7 @@ use Rattle.model.specs.Calls.{seven}
 use Rattle.pauli.specs.Rows.{valueAt}
 use Rattle.pauli.specs.Fill.{Written}
 use Rattle.frame.specs.Places.{IsRow}
+use Rattle.frame.proofs.FreshLaws.{value-none}
 use Rattle.frame.proofs.RowedLaws.{same-row}
 use Rattle.marking.specs.Axes.{Sets}
 
@@ -98,20 +99,11 @@ row-sets l s p r = record { x = r .x; z = r .z }
 pub sets-as : (l : ℕ) (s : List ℕ) (p q : Pauli) → p .x ≡ q .x → p .z ≡ q .z → Sets l s p → Sets l s q
 sets-as l s p q ex ez h = record { x = h .x ∙ ex; z = h .z ∙ ez }
 
--- words that are 0 are the empty set
-pub zero-value : (s : List ℕ) (n a : ℕ) → ((i : ℕ) → i < n → getD s (a + i) 0 ≡ 0) → valueAt s a n ≡ 0
-unfolding valueAt
-zero-value s zero a h = refl
-zero-value s (suc n) a h =
-    let low : getD s a 0 ≡ 0 = ap (λ (k : ℕ). getD s k 0) (sym (add-zero a)) ∙ h 0 (omega arith) in
-    let high : valueAt s (suc a) n ≡ 0 = zero-value s n (suc a) (λ i g. ap (λ (k : ℕ). getD s k 0) (suc-add a i ∙ sym (add-suc a i)) ∙ h (suc i) (omega arith)) in
-    omega (arith, low, high)
-
 pub clear-sets : (l : ℕ) (s t : List ℕ) → Written s 1 (2 * l) (λ i. 0) t → Sets l t plain
 unfolding plain
 clear-sets l s t m = record {
-  x = zero-value t l 1 (λ i h. m .here i (omega arith));
-  z = zero-value t l (1 + l) (λ i h.
+  x = value-none t l 1 (λ i h. m .here i (omega arith));
+  z = value-none t l (1 + l) (λ i h.
       let e : 1 + l + i ≡ 1 + (l + i) = omega arith in
       ap (λ (k : ℕ). getD t k 0) e ∙ m .here (l + i) (omega arith));
 }

@@ -39,7 +39,7 @@ module _ (es : List Event) (e : Event) where
   unfolding eventAt
   at-new = getD-append-seam es e [] noEvent
 
-  live-old : (i : ℕ) → i < length es → liveAt (es ++ (e ∷ [])) i ≡ liveAt es i
+  pub live-old : (i : ℕ) → i < length es → liveAt (es ++ (e ∷ [])) i ≡ liveAt es i
   unfolding liveAt
   live-old i h = ap (λ (w : Event). w .live) (at-old i h)
 
@@ -54,7 +54,7 @@ module _ (es : List Event) (e : Event) where
       line n = omega arith
 
   -- the dead of a list of old events are what they were
-  dead-old : (s : List ℕ) → ((i : ℕ) → Mem i s → i < length es) → dead (es ++ (e ∷ [])) s ≡ dead es s
+  pub dead-old : (s : List ℕ) → ((i : ℕ) → Mem i s → i < length es) → dead (es ++ (e ∷ [])) s ≡ dead es s
   unfolding dead
   dead-old s h = ap length (keep-same _ _ s (λ i m. ap not (live-old i (h i m))))
 
@@ -115,7 +115,7 @@ unfolding push
 push-length l id e b [] = refl
 push-length l id e b (s ∷ ss) = ap suc (push-length l id e (suc b) ss)
 
-push-at : (l id : ℕ) (e : Event) (b : ℕ) (ls : List (List ℕ)) (c : ℕ) → c < length ls
+pub push-at : (l id : ℕ) (e : Event) (b : ℕ) (ls : List (List ℕ)) (c : ℕ) → c < length ls
     → getD (push l id e b ls) c [] ≡ cond (touches l (e .x) (e .z) (b + c)) (getD ls c [] ++ (id ∷ [])) (getD ls c [])
 unfolding push
 push-at l id e b [] c h = absurd (not-suc-le-zero h)

@@ -6,7 +6,7 @@ use Prim.Native.Nat.{ℕ, zero, suc, _+_, _-_, _*_, _/_, _%_, _^_, _≤_, _<_, m
 use native.Mathlib.Nat.{div-one, div-div-eq-div-mul, mul-comm, mul-assoc, pow-suc, zero-mul, one-mul, mod-eq-of-lt, zero-lt-suc, not-suc-le-zero, le-of-suc-le-suc}
 use native.Mathlib.Omega.{arith}
 use lib.Arith.{lt-one}
-use lib.Pow.{pow-pos, pow-lt}
+use lib.Pow.{pow-pos, pow-lt, field, mod-mod-pow}
 use lib.Bits.{bitAnd, bitOr, bitXor, and-step, or-add-and, and-shr, or-shr, and-self, xor-disjoint}
 use lib.Count.{trailingZeros, under}
 use Rattle.model.specs.Pauli.{has}
@@ -185,3 +185,12 @@ rest-is w p h q lo = subst (λ (x : ℕ). Took w x (bitAnd w (w - 1))) (lowest-s
           gone = l .zeros t (omega arith);
           other = λ j d. sym (ap (λ (x : ℕ). has x j) (sym (l .sum)) ∙ has-add-other (bitAnd w (w - 1)) t j (l .zeros t (omega arith)) d);
         }
+
+-- ---- the digits below k
+
+has-mod-at : (n i j : ℕ) → has (n % 2 ^ ((i + 1) + j)) j ≡ has n j
+unfolding has
+has-mod-at n i j = ap (λ (x : ℕ). x % 2) (field n (i + 1) j) ∙ mod-mod-pow (n / 2 ^ j) i 1
+
+pub has-mod : (k n j : ℕ) → j < k → has (n % 2 ^ k) j ≡ has n j
+has-mod k n j l = subst (λ (x : ℕ). has (n % 2 ^ x) j ≡ has n j) (omega arith) (has-mod-at n (k - suc j) j)

@@ -13,14 +13,14 @@ use lib.Bits.{bitAnd, and-le-l, and-le-r, shifted-half, shifted-even}
 use lib.Count.{ones}
 use lib.Dec.{leb, ltb, eqb}
 use lib.ListN.{length, getD, take, drop, length-take, length-drop, length-map, drop-of-length-le, List·getD-eq-default}
-use lib.Pow.{field, mod-mod-pow, pow-pos}
+use lib.Pow.{pow-pos}
 use lib.Seq.{getD-take, getD-drop, drop-drop, ext-getD}
 use Rattle.model.specs.Pauli.{has, count, apart}
 use Rattle.model.specs.Events.{Event, State, words, keep, some, eventAt, liveAt}
 use Rattle.model.specs.Search.{Work, stopped, dry, walk, against, listAt, blocks, start, block, slicedList}
 use Rattle.model.proofs.Digits.{has-lt, has-zero}
 use Rattle.model.proofs.Counts.{count-ones, count-step, count-zero}
-use Rattle.pauli.proofs.Digits.{three, has-low, has-up, has-ext, has-min, has-not}
+use Rattle.pauli.proofs.Digits.{three, has-low, has-up, has-ext, has-min, has-not, has-mod}
 use Rattle.lists.specs.declared.budget.Budget.{Budget}
 use Rattle.lists.specs.declared.budget.Spent.the-variants.{Left, Short}
 use Rattle.lists.specs.declared.budget.Scan.{Scan}
@@ -34,13 +34,6 @@ use Rattle.sliced.proofs.BlockLaws.{block-end}
 use Rattle.sliced.proofs.RebuildLaws.{part-get, part-length, is?}
 
 -- ---- digits of a remainder, of a shifted word and of a word of ones
-
-has-mod-at : (n i j : ℕ) → has (n % 2 ^ ((i + 1) + j)) j ≡ has n j
-unfolding has
-has-mod-at n i j = ap (λ (x : ℕ). x % 2) (field n (i + 1) j) ∙ mod-mod-pow (n / 2 ^ j) i 1
-
-has-mod : (k n j : ℕ) → j < k → has (n % 2 ^ k) j ≡ has n j
-has-mod k n j l = subst (λ (x : ℕ). has (n % 2 ^ x) j ≡ has n j) (omega arith) (has-mod-at n (k - suc j) j)
 
 has-shl-low : (n s j : ℕ) → j < s → has (n * 2 ^ s) j ≡ 0
 has-shl-low n zero j l = absurd (not-suc-le-zero l)

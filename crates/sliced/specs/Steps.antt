@@ -6,7 +6,6 @@ use Prim.Native.Nat.{ℕ, _+_, _*_, _/_, _^_, _≤_, _<_}
 use lib.Bits.{bitOr}
 use lib.ListN.{length, getD, set}
 use Rattle.model.specs.Pauli.{has}
-use Rattle.model.specs.Events.{words}
 use Rattle.sliced.specs.declared.sliced.Next.{Next}
 use Rattle.sliced.specs.declared.sliced.Next.the-variants.{At, Bad}
 use Rattle.lists.specs.Lists.{Only, isLive}

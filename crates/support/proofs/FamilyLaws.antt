@@ -20,7 +20,7 @@ use borrow.Author.Tests.{eq-eqb, ne-eqb}
 use Rattle.model.specs.Pauli.{has}
 use Rattle.model.specs.Events.{words}
 use Rattle.model.specs.Demands.{Mem}
-use Rattle.model.proofs.Digits.{has-zero, on-has}
+use Rattle.model.proofs.Digits.{has-zero}
 use Rattle.model.proofs.Members.{keep-same}
 use Rattle.pauli.specs.Digits.{Took}
 use Rattle.pauli.proofs.Digits.{three, has-past, has-or}
@@ -28,6 +28,7 @@ use Rattle.pauli.proofs.Walk.{same?}
 use Rattle.lists.specs.Lists.{Only, Among, Counts, Known, isLive, left, dropsAt}
 use Rattle.lists.specs.Scalars.{Scalar, UsedScalar, ScalarTo, noted}
 use Rattle.sliced.specs.Blocks.{Entry, entry, dead, slicedRoom, livePlace, maskPlace, Reps, Sliced, UsedSliced, SlicedTo, Source, kept, killedAt}
+use Rattle.sliced.proofs.BlockLaws.{bit?}
 use Rattle.support.specs.Families.{chosen, Scalars, ScalarsTo, Sliceds, SlicedsTo}
 
 -- ---- rooms
@@ -64,9 +65,6 @@ pub record Family {A : Type 0} (L : ℕ) (One : ℕ → List ℕ → A → ℕ �
   pub todo : (b : ℕ) → b < L → has w b ≡ 1 → One b h (xs b) (d b)
   pub rest : (b : ℕ) → b < L → has sig b ≡ 0 → One b h (xs b) (d b)
   pub only : Only (UsedBy L Used sig ys) h₀ h
-
-digit : (n i : ℕ) → (has n i ≡ 0) ⊎ (has n i ≡ 1)
-digit = on-has (λ (v : ℕ). (v ≡ 0) ⊎ (v ≡ 1)) (inl refl) (inr refl)
 
 module _ {A : Type 0} (L at base size : ℕ) (One : ℕ → List ℕ → A → ℕ → Type 0) (Used : ℕ → A → ℕ → Type 0)
     (inside : (b : ℕ) (h : List ℕ) (x : A) (d : ℕ) → One b h x d → (k : ℕ) → Used b x k → InRoom at base size b k)
@@ -107,7 +105,7 @@ module _ {A : Type 0} (L at base size : ℕ) (One : ℕ → List ℕ → A → �
       → (b : ℕ) → b < L → One b h (ys b) (e b)
   all h same f b l =
       ⊎-elim (λ z. subst (λ (a : ℕ). One b h (ys b) a) (same b z .1) (subst (λ (x : A). One b h x (d b)) (same b z .0) (f .rest b l z)))
-      (λ o. f .done b l o (has-zero b)) (digit sig b)
+      (λ o. f .done b l o (has-zero b)) (bit? sig b)
 
   before : (w : ℕ) (h : List ℕ) → ((b : ℕ) (x : A) (k : ℕ) → Used b x k → at ≤ k) → Family L One Used sig xs ys d e h₀ w h
       → (k : ℕ) → k < at → getD h k 0 ≡ getD h₀ k 0

@@ -4,17 +4,16 @@
 --     phase-ends     a turn whose walk stops or runs dry: so does the whole
 --     phase-end      where no digit is left, the whole is done
 -- Assumes nothing.
-use mathlib.Core.Path.{_≡_, refl, sym, ap, ap₂, _∙_, subst}
+use mathlib.Core.Path.{_≡_, refl, sym, ap, _∙_, subst}
 use mathlib.Core.Logic.{_⊎_, ⊎-elim}
 use mathlib.Core.Bool.{Bool, true, false, cond, not}
 use mathlib.Core.List.{List, [], _∷_, _++_, map}
 use Prim.Native.Nat.{ℕ, zero, suc, _+_, _-_, _*_, _/_, _%_, _^_, _≤_, _<_}
-use native.Mathlib.Nat.{pow-suc, zero-mul, one-mul, zero-add, zero-div, zero-mod, not-suc-le-zero}
+use native.Mathlib.Nat.{one-mul, zero-add, zero-div, zero-mod, not-suc-le-zero}
 use native.Mathlib.Omega.{arith}
 use lib.ListN.{length}
 use lib.Dec.{eqb, ltb}
 use lib.Bits.{bitOr}
-use lib.Pow.{pow-pos}
 use borrow.Author.Tests.{eq-eqb, ne-eqb}
 use Rattle.model.specs.Pauli.{has}
 use Rattle.model.specs.Frame.{from}
@@ -24,10 +23,11 @@ use Rattle.model.specs.Search.{Work, Walk, done, stopped, dry, walk, join, list
 use Rattle.model.proofs.Digits.{has-lt, has-zero, on-two}
 use Rattle.model.proofs.Members.{keep-yes, keep-no, keep-none, from-mem}
 use Rattle.pauli.specs.Digits.{Lowest, Took}
-use Rattle.pauli.specs.Rows.{touched, signature}
-use Rattle.pauli.proofs.Digits.{three, has-past, has-add-same, has-add-other}
+use Rattle.pauli.specs.Rows.{signature}
+use Rattle.pauli.proofs.Digits.{three}
 use Rattle.pauli.proofs.Walk.{same?}
 use Rattle.lists.specs.Scans.{scanOf, steps}
+use Rattle.lists.proofs.ScanLaws.{signature-digit as signature-bit}
 use Rattle.lists.specs.declared.budget.Budget.{Budget}
 use Rattle.lists.specs.declared.budget.Scan.{Scan}
 use Rattle.lists.specs.declared.budget.Scan.the-variants.{Clear, Blocked, Out, Bad}
@@ -168,43 +168,12 @@ out-other b now q = let z : _≡_ {A = ℕ} 0 1 = cc in omega arith
 
 -- ---- the digits of a signature
 
-module _ (l x z : ℕ) where
-  touched-lt : (k : ℕ) → touched l x z k < 2 ^ k
-  unfolding touched
-  touched-lt zero = pow-pos 0
-  touched-lt (suc k) = go (touches l x z k) (touched-lt k)
-    where
-      go : (t : Bool) → touched l x z k < 2 ^ k → cond t 1 0 * 2 ^ k + touched l x z k < 2 ^ suc k
-      go true h = omega (arith, pow-suc 2 k)
-      go false h = omega (arith, pow-suc 2 k)
-
-  touched-digit : (k j : ℕ) → j < k → touches l x z j ≡ eqb (has (touched l x z k) j) 1
-  unfolding touched
-  touched-digit zero j h = absurd (not-suc-le-zero h)
-  touched-digit (suc k) j h = go (touches l x z k) refl (λ u. touched-digit k j u)
-    where
-      top : has (touched l x z k) k ≡ 0
-      top = has-past k (touched l x z k) k (touched-lt k) (omega arith)
-
-      go : (t : Bool) → touches l x z k ≡ t → (j < k → touches l x z j ≡ eqb (has (touched l x z k) j) 1) → touches l x z j ≡ eqb (has (cond t 1 0 * 2 ^ k + touched l x z k) j) 1
-      go true e ih =
-          let s : 1 * 2 ^ k + touched l x z k ≡ touched l x z k + 2 ^ k = omega (arith, one-mul (2 ^ k)) in
-          ⊎-elim (λ (q : j ≡ k). ap (λ (i : ℕ). touches l x z i) q ∙ e ∙ sym (ap₂ (λ (v i : ℕ). eqb (has v i) 1) s q ∙ eq-eqb _ 1 (has-add-same (touched l x z k) k top)))
-          (λ q. ih (under q) ∙ sym (ap (λ (v : ℕ). eqb (has v j) 1) s ∙ ap (λ (d : ℕ). eqb d 1) (has-add-other (touched l x z k) k j top q))) (same? j k)
-        where
-          under : (j ≡ k → ⊥) → j < k
-          under q = ⊎-elim (λ (g : k < j). absurd (omega arith)) (λ r. ⊎-elim (λ (g : j ≡ k). absurd (q g)) (λ (g : j < k). g) r) (three j k)
-      go false e ih =
-          let s : 0 * 2 ^ k + touched l x z k ≡ touched l x z k = omega (arith, zero-mul (2 ^ k)) in
-          ⊎-elim (λ (q : j ≡ k). ap (λ (i : ℕ). touches l x z i) q ∙ e ∙ sym (ap₂ (λ (v i : ℕ). eqb (has v i) 1) s q ∙ ne-eqb (has (touched l x z k) k) 1 (λ o. omega (arith, top))))
-          (λ q. ih (under q) ∙ sym (ap (λ (v : ℕ). eqb (has v j) 1) s)) (same? j k)
-        where
-          under : (j ≡ k → ⊥) → j < k
-          under q = ⊎-elim (λ (g : k < j). absurd (omega arith)) (λ r. ⊎-elim (λ (g : j ≡ k). absurd (q g)) (λ (g : j < k). g) r) (three j k)
-
-  pub signature-digit : (sig j : ℕ) → sig ≡ signature l x z → j < 64 → touches l x z j ≡ eqb (has sig j) 1
-  unfolding signature
-  signature-digit sig j e h = touched-digit 64 j h ∙ ap (λ (v : ℕ). eqb (has v j) 1) (sym e)
+pub signature-digit : (l x z sig j : ℕ) → sig ≡ signature l x z → j < 64 → touches l x z j ≡ eqb (has sig j) 1
+signature-digit l x z sig j e h = go (touches l x z j) (ap (λ (v : ℕ). has v j) e ∙ signature-bit l x z j h)
+  where
+    go : (t : Bool) → has sig j ≡ cond t 1 0 → t ≡ eqb (has sig j) 1
+    go true d = sym (eq-eqb (has sig j) 1 d)
+    go false d = sym (ne-eqb (has sig j) 1 (λ q. omega (arith, d, q)))
 
 -- in the sliced form digit q is qubit q
 pub qubit-digit : (x z j : ℕ) → touches 1 x z j ≡ eqb (has (bitOr x z) j) 1

@@ -3,7 +3,8 @@ use Rattle.model.specs.Events.{words}
 use Rattle.sliced.proofs.RebuildLaws.{small-x, small-z}
 use lib.ListN.{getD}
 use Rattle.model.specs.Store.{listCount}
-use Rattle.history.proofs.ScanForm.{lists-inside, counts-inside, axes-inside, scalar-rooms, sliced-rooms, sized-scalar, sized-sliced, held-scalar, held-sliced, all-scannable, all-sliced, narrow-small, narrow-scan}
+use Rattle.history.proofs.FormLaws.{as-scalar, as-sliced, scalar-rooms, sliced-rooms}
+use Rattle.history.proofs.ScanForm.{lists-inside, counts-inside, axes-inside, held-scalar, held-sliced, all-scannable, all-sliced, narrow-small, narrow-scan}
 use native.Mathlib.Omega.{arith}
 use borrow.Author.Needs.{needs}
 use Rattle.history.proofs.forms.scan_lists.Statement.{statement}
@@ -53,7 +54,7 @@ unfolding words listCount
 add-scan-scalar c =
     let s = c .before .before .before .before .before in
     let a = s .args in
-    let z = sized-scalar (a .n) (a .cap) (a .l) (a .h .now) (a .form) (c .before .enum-told .given .1) (s .pre .0) in
+    let z = as-scalar (a .form) (a .n) (a .cap) (a .l) (a .h .now) (c .before .enum-told .given .1) (s .pre .0) in
     omega (arith, lists-inside _ (a .n) (a .cap) (a .l) (a .h .now) z)
 
 mul-scan-scalar-2 : tie.Need-mul-scan-scalar-2
@@ -69,11 +70,11 @@ add-scan-scalar-3 : tie.Need-add-scan-scalar-3
 add-scan-scalar-3 c = search needs
 
 scan-scalar-requires : tie.Need-scan-scalar-requires
-unfolding words
+unfolding words listCount
 scan-scalar-requires c κs =
     let s = c .before .before .before .before .before in
     let a = s .args in
-    let z = sized-scalar (a .n) (a .cap) (a .l) (a .h .now) (a .form) (c .before .enum-told .given .1) (s .pre .0) in
+    let z = as-scalar (a .form) (a .n) (a .cap) (a .l) (a .h .now) (c .before .enum-told .given .1) (s .pre .0) in
     (scalar-rooms (a .n) (a .cap) (a .l) (a .h .now) z, omega (arith, counts-inside _ (a .n) (a .cap) (a .l) (a .h .now) z), axes-inside _ (a .n) (a .cap) (a .l) (a .h .now) z (a .events) (s .pre .2), s .pre .1)
 
 enum-told-2 : tie.Need-enum-told-2
@@ -83,28 +84,28 @@ shared-slice-read-ax : tie.Need-shared-slice-read-ax
 shared-slice-read-ax c =
     let s = c .before .before .before .before .before in
     let a = s .args in
-    let z = sized-sliced (a .n) (a .cap) (a .l) (a .h .now) (a .form) (c .before .enum-told2 .given .1) (s .pre .0) in
+    let z = as-sliced (a .form) (a .n) (a .cap) (a .l) (a .h .now) (c .before .enum-told2 .given .1) (s .pre .0) in
     omega (arith, z .narrow .1)
 
 shared-slice-read-az : tie.Need-shared-slice-read-az
 shared-slice-read-az c =
     let s = c .before .before .before .before .before .before in
     let a = s .args in
-    let z = sized-sliced (a .n) (a .cap) (a .l) (a .h .now) (a .form) (c .before .before .enum-told2 .given .1) (s .pre .0) in
+    let z = as-sliced (a .form) (a .n) (a .cap) (a .l) (a .h .now) (c .before .before .enum-told2 .given .1) (s .pre .0) in
     omega (arith, z .narrow .1)
 
 shr-if1 : tie.Need-shr-if1
 shr-if1 c =
     let s = c .before .before .before .before .before .before in
     let a = s .args in
-    let z = sized-sliced (a .n) (a .cap) (a .l) (a .h .now) (a .form) (c .before .before .enum-told2 .given .1) (s .pre .0) in
+    let z = as-sliced (a .form) (a .n) (a .cap) (a .l) (a .h .now) (c .before .before .enum-told2 .given .1) (s .pre .0) in
     omega (arith, z .narrow .0)
 
 returns : tie.Need-returns
 returns c =
     let s = c .before .before .before .before .before .before .before in
     let a = s .args in
-    let z = sized-sliced (a .n) (a .cap) (a .l) (a .h .now) (a .form) (c .before .before .before .enum-told2 .given .1) (s .pre .0) in
+    let z = as-sliced (a .form) (a .n) (a .cap) (a .l) (a .h .now) (c .before .before .before .enum-told2 .given .1) (s .pre .0) in
     λ m held scanned x-small z-small.
     absurd (c .if1 .taken (narrow-small (a .axis .now) (a .l) (s .pre .1) (z .narrow .1) (a .n) x-small z-small))
 
@@ -112,7 +113,7 @@ mul-scan-sliced : tie.Need-mul-scan-sliced
 mul-scan-sliced c =
     let s = c .before .before .before .before .before .before .before in
     let a = s .args in
-    let z = sized-sliced (a .n) (a .cap) (a .l) (a .h .now) (a .form) (c .before .before .before .enum-told2 .given .1) (s .pre .0) in
+    let z = as-sliced (a .form) (a .n) (a .cap) (a .l) (a .h .now) (c .before .before .before .enum-told2 .given .1) (s .pre .0) in
     omega (arith, z .narrow .0)
 
 add-scan-sliced : tie.Need-add-scan-sliced
@@ -120,15 +121,15 @@ unfolding words listCount
 add-scan-sliced c =
     let s = c .before .before .before .before .before .before .before in
     let a = s .args in
-    let z = sized-sliced (a .n) (a .cap) (a .l) (a .h .now) (a .form) (c .before .before .before .enum-told2 .given .1) (s .pre .0) in
+    let z = as-sliced (a .form) (a .n) (a .cap) (a .l) (a .h .now) (c .before .before .before .enum-told2 .given .1) (s .pre .0) in
     omega (arith, lists-inside _ (a .n) (a .cap) (a .l) (a .h .now) z)
 
 scan-sliced-requires : tie.Need-scan-sliced-requires
-unfolding words
+unfolding words listCount
 scan-sliced-requires c κs =
     let s = c .before .before .before .before .before .before .before in
     let a = s .args in
-    let z = sized-sliced (a .n) (a .cap) (a .l) (a .h .now) (a .form) (c .before .before .before .enum-told2 .given .1) (s .pre .0) in
+    let z = as-sliced (a .form) (a .n) (a .cap) (a .l) (a .h .now) (c .before .before .before .enum-told2 .given .1) (s .pre .0) in
     (sliced-rooms (a .n) (a .cap) (a .l) (a .h .now) z, small-x (getD (a .axis .now) 0 0) (getD (a .axis .now) 1 0) (a .n) (c .if1 .left), small-z (getD (a .axis .now) 0 0) (getD (a .axis .now) 1 0) (a .n) (c .if1 .left))
 
 returns-2 : tie.Need-returns-2
@@ -144,7 +145,7 @@ unfolding words
 returns-3 c =
     let s = c .before .before .before .before .before .before .before .before in
     let a = s .args in
-    let z = sized-sliced (a .n) (a .cap) (a .l) (a .h .now) (a .form) (c .before .before .before .before .enum-told2 .given .1) (s .pre .0) in
+    let z = as-sliced (a .form) (a .n) (a .cap) (a .l) (a .h .now) (c .before .before .before .before .enum-told2 .given .1) (s .pre .0) in
     λ m held scanned x-small z-small.
     narrow-scan (a .axis .now) (a .l) (s .pre .1) (z .narrow .1) m (a .after) (a .budget .0) (c .scan-sliced .result) (c .scan-sliced .ensures m (all-sliced (a .n) (a .cap) (a .l) m (a .h .now) (held-sliced (a .n) (a .cap) (a .l) (a .h .now) (a .form) m (c .before .before .before .before .enum-told2 .given .1) held)))
 

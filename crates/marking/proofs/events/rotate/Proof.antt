@@ -1,7 +1,8 @@
 -- `marking::events::rotate` meets its contract: label, axis and sign are read, then the rotation is recorded. Assumes nothing.
 use Rattle.pauli.proofs.Signs.{bits8, bits8-sign}
 use Rattle.frame.proofs.AxisLaws.{is-signed}
-use Rattle.marking.proofs.PutMarks.{off, bits-sign, rotate-records, unsigned-records, no-axis-records}
+use Rattle.history.proofs.LookLaws.{sign-bits}
+use Rattle.marking.proofs.PutMarks.{off, rotate-records, unsigned-records, no-axis-records}
 use native.Mathlib.Omega.{arith}
 use borrow.Author.Needs.{needs}
 use Rattle.marking.proofs.events.rotate.Statement.{statement}
@@ -58,7 +59,7 @@ put-requires c κs =
     let s = c .before .before .before .before .before .before .before .before .before .before .before .before .before .before .before .before .before .before .before in
     let sgn = c .before .before .before .before .before .row-sign in
     let w = c .before .before .before .g .given in
-    (s .pre .0, omega arith, bits-sign (w .0 .0) (is-signed (sgn .result) (w .0 .0) (sgn .ensures .1 .0) (w .1)))
+    (s .pre .0, omega arith, sign-bits (w .0 .0) (is-signed (sgn .result) (w .0 .0) (sgn .ensures .1 .0) (w .1)))
 
 same-length-3 : tie.Need-same-length-3
 same-length-3 c = search needs

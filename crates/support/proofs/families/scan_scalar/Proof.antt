@@ -12,7 +12,7 @@ use Rattle.pauli.proofs.Walk.{took-less}
 use Rattle.lists.specs.declared.budget.Budget.{Budget}
 use Rattle.lists.specs.declared.budget.Scan.{Scan}
 use Rattle.lists.specs.declared.budget.Scan.the-variants.{Clear, Blocked, Out}
-use Rattle.lists.specs.Scans.{Scannable, scanOf, steps}
+use Rattle.lists.specs.Scans.{Scannable, scanOf}
 use Rattle.support.specs.Families.{AllScannable}
 use Rattle.support.proofs.FamilyLaws.{rooms-rise, still-within}
 use Rattle.support.proofs.PhaseLaws.{Phase, phase-none, phase-end, phase-clear, phase-ends, never-bad, blocked-other, out-other, signature-digit, scalar-phase}

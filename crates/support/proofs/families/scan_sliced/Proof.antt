@@ -14,7 +14,7 @@ use Rattle.lists.specs.declared.budget.Scan.{Scan}
 use Rattle.lists.specs.declared.budget.Scan.the-variants.{Clear, Blocked, Out}
 use Rattle.lists.specs.Lists.{Rises}
 use Rattle.sliced.specs.Blocks.{entryOf, slicedRoom, Reps}
-use Rattle.lists.specs.Scans.{scanOf, steps}
+use Rattle.lists.specs.Scans.{scanOf}
 use Rattle.support.specs.Families.{AllSliced}
 use Rattle.support.proofs.FamilyLaws.{sizeOf, one-fits, room-fits, or-some-qubit, or-digit-below, still-within}
 use Rattle.support.proofs.PhaseLaws.{quiet, one-plane, Phase, phase-none, phase-end, phase-clear, phase-ends, never-bad, blocked-other, out-other, qubit-digit, sliced-phase}
