@@ -28,6 +28,7 @@ fn refusal(n: usize, g: Gate) -> u32
     }
 }
 
+// A gate on both frames. "4: a qubit is n or more", "5: one gate names a qubit twice"
 pub fn gate(s: &mut [u64], g: Gate) -> Answer
     ensures { λ r. ⌜ Meets (callGate (gateOf g)) (now (s .entry)) (told r) (now (s .exit)) ⌝ }
 {
@@ -74,6 +75,7 @@ fn turn_refusal(n: usize, k: u64, q: usize) -> u32
     8
 }
 
+// The gates of a turn on both frames. "8: a turn other than 0, 2, 4, 6", then 4
 pub fn turn(s: &mut [u64], kind: Kind, k: u64, q: usize) -> Answer
     ensures { λ r. ⌜ Meets (callTurn (kindOf kind) k q) (now (s .entry)) (told r) (now (s .exit)) ⌝ }
 {

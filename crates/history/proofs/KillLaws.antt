@@ -212,13 +212,13 @@ kill-dying es id e =
 pub kill-past : (es : List Event) (cap id : ℕ) → length es ≤ cap → cap ≤ id → notKillable es id ≡ false → ⊥
 kill-past es cap id few past e = omega (arith, kill-dying es id e .there)
 
-nothing-says : (tag : ℕ) (sgn : ℤ) (live : Bool) → Nothing ≡ Says tag sgn live → ⊥
+pub nothing-says : (tag : ℕ) (sgn : ℤ) (live : Bool) → Nothing ≡ Says tag sgn live → ⊥
 nothing-says tag sgn live e = let z : _≡_ {A = ℕ} 0 1 = cc in omega arith
 
-nothing-bad : Nothing ≡ Bad → ⊥
+pub nothing-bad : Nothing ≡ Bad → ⊥
 nothing-bad e = let z : _≡_ {A = ℕ} 0 1 = cc in omega arith
 
-bad-says : (tag : ℕ) (sgn : ℤ) (live : Bool) → Bad ≡ Says tag sgn live → ⊥
+pub bad-says : (tag : ℕ) (sgn : ℤ) (live : Bool) → Bad ≡ Says tag sgn live → ⊥
 bad-says tag sgn live e = let z : _≡_ {A = ℕ} 0 1 = cc in omega arith
 
 says-live : (tag : ℕ) (sgn : ℤ) (live : Bool) (es : List Event) (id : ℕ) → Says tag sgn live ≡ readOf (reading es id) → live ≡ liveAt es id
@@ -255,9 +255,12 @@ not-both b e q = clash (not b) q (ap not e)
 pub not-neither : (b : Bool) → b ≡ false → not b ≡ false → ⊥
 not-neither b e q = clash (not b) (ap not e) q
 
--- what is done or bad is not refused
+-- the three answers differ: what is done or bad is not refused, and what is bad is not done
 pub done-kept : done ≡ refused → ⊥
 done-kept e = let z : _≡_ {A = ℕ} 0 1 = cc in omega arith
 
 pub bad-kept : Killed.Bad ≡ refused → ⊥
 bad-kept e = let z : _≡_ {A = ℕ} 0 1 = cc in omega arith
+
+pub bad-done : Killed.Bad ≡ done → ⊥
+bad-done e = let z : _≡_ {A = ℕ} 0 1 = cc in omega arith

@@ -6,7 +6,7 @@ use mathlib.Core.List.{List, [], _∷_, _++_}
 use Prim.Native.Nat.{ℕ, _+_, _-_, _≤_, _<_}
 use native.Mathlib.Omega.{arith}
 use lib.ListN.{length, getD, take, length-append, List·getD-append}
-use lib.Seq.{length-take-le, getD-take, ext-getD}
+use lib.Seq.{length-take-le, getD-take}
 use borrow.Author.Tests.{lt-ltb}
 use Rattle.model.specs.Events.{State, plane}
 use Rattle.model.specs.Calls.{Call, callOpen, callGate, callTurn, callRecord, callMeasure, callReset, callCcx, callCcz, callKill, callRead, callClear, callLook, answer, answerTo}
@@ -14,7 +14,7 @@ use Rattle.model.specs.Demands.{isOpening}
 use Rattle.frame.specs.Places as frames
 use Rattle.history.specs.Words.{historyRoom, Holds}
 use Rattle.store.specs.Stores.{part, frameSize, historyPlace, Stored}
-use Rattle.store.proofs.Splice.{part-length, part-at}
+use Rattle.store.proofs.Splice.{part-same}
 use Rattle.store.proofs.SizeLaws.{stored-accepted}
 
 -- two slices of which the one is as the other below w
@@ -24,12 +24,7 @@ pub record AsBelow (w : ℕ) (s t : List ℕ) : Type 0 where
 
 -- their parts below w are equal
 part-below : (a k w : ℕ) (s t : List ℕ) → a + k ≤ w → w ≤ length s → AsBelow w s t → part a k t ≡ part a k s
-part-below a k w s t fits long h =
-    let p : length (part a k t) ≡ k = part-length a k t (omega (arith, h .there)) in
-    let q : length (part a k s) ≡ k = part-length a k s (omega arith) in
-    ext-getD 0 (part a k t) (part a k s) (p ∙ sym q) (λ i c.
-    let c′ : i < k = omega (arith, c, p) in
-    part-at a k t (omega (arith, h .there)) i c′ ∙ h .words (a + i) (omega arith) ∙ sym (part-at a k s (omega arith) i c′))
+part-below a k w s t fits long h = part-same a k s t (omega arith) (omega (arith, h .there)) (λ i lo hi. h .words i (omega arith))
 
 -- and the one holds what the other does, if w is no less than the length at the opening
 pub stored-below : (m : State) (w : ℕ) (s t : List ℕ) → m .given .size ≤ w → w ≤ length s → AsBelow w s t → Stored m s → Stored m t

@@ -46,6 +46,7 @@ use Rattle.history.specs.declared.events.Told.{Told}
 use Rattle.history.specs.declared.events.Told.the-variants as told
 use Rattle.history.specs.declared.looks.Seen.{Seen}
 use Rattle.history.specs.declared.looks.Seen.the-variants as seen
+use Rattle.history.proofs.KillLaws.{nothing-says, nothing-bad, bad-says, done-kept, bad-kept, bad-done}
 use Rattle.store.specs.declared.header.Sizes.{Sizes}
 use Rattle.store.specs.declared.answers.Sight.the-variants as sight
 use Rattle.store.specs.Stores.{Stored, Held, StoredTo}
@@ -80,16 +81,6 @@ module _ (z : Sizes) (s : List ℕ) (fit : Fit z s) where
 
 -- ---- a kill
 
--- the answers differ
-done-refused : killed.Done ≡ killed.Refused → ⊥
-done-refused e = let y : _≡_ {A = ℕ} 0 1 = cc in omega arith
-
-bad-refused : killed.Bad ≡ killed.Refused → ⊥
-bad-refused e = let y : _≡_ {A = ℕ} 0 1 = cc in omega arith
-
-bad-done : killed.Bad ≡ killed.Done → ⊥
-bad-done e = let y : _≡_ {A = ℕ} 0 1 = cc in omega arith
-
 -- the history's part came back as ys
 module _ (z : Sizes) (s : List ℕ) (fit : Fit z s) (ys : List ℕ) where
   back-killed : (id : ℕ) (m : State) → Stored m s → Becomes (formOf (z .form)) (z .n) (z .cap) (z .l) (kill id m) (lent z s) ys → StoredTo (kill id m) s (back z s ys)
@@ -121,7 +112,7 @@ module _ (z : Sizes) (s : List ℕ) (fit : Fit z s) (ys : List ℕ) where
       where
         go : (m : State) → Holds (formOf (z .form)) (z .n) (z .cap) (z .l) m (lent z s) → Sane m → (b : Bool) → notKillable (m .events) id ≡ b
             → (notKillable (m .events) id ≡ false) × Becomes (formOf (z .form)) (z .n) (z .cap) (z .l) (kill id m) (lent z s) ys
-        go m h g true q = absurd (done-refused (sym e ∙ refuses m h g q .0))
+        go m h g true q = absurd (done-kept (sym e ∙ refuses m h g q .0))
         go m h g false q = (q, does m h g q .1)
 
     -- "7: no such event, a blocker, or dead"
@@ -133,7 +124,7 @@ module _ (z : Sizes) (s : List ℕ) (fit : Fit z s) (ys : List ℕ) where
       where
         go : (m : State) → Holds (formOf (z .form)) (z .n) (z .cap) (z .l) m (lent z s) → Sane m → (b : Bool) → notKillable (m .events) id ≡ b → notKillable (m .events) id ≡ true
         go m h g true q = q
-        go m h g false q = absurd (done-refused (sym (does m h g q .0) ∙ e))
+        go m h g false q = absurd (done-kept (sym (does m h g q .0) ∙ e))
 
     -- a stored value is bad: no state is held
     pub kill-bad : r ≡ killed.Bad → Meets (callKill id) s (refused 9) (back z s ys)
@@ -141,7 +132,7 @@ module _ (z : Sizes) (s : List ℕ) (fit : Fit z s) (ys : List ℕ) where
         go m (lent-holds z s fit m (held .stored)) (held-sane m s held) (notKillable (m .events) id) refl)
       where
         go : (m : State) → Holds (formOf (z .form)) (z .n) (z .cap) (z .l) m (lent z s) → Sane m → (b : Bool) → notKillable (m .events) id ≡ b → ⊥
-        go m h g true q = bad-refused (sym e ∙ refuses m h g q .0)
+        go m h g true q = bad-kept (sym e ∙ refuses m h g q .0)
         go m h g false q = bad-done (sym e ∙ does m h g q .0)
 
   -- ---- a clear
@@ -156,15 +147,6 @@ module _ (z : Sizes) (s : List ℕ) (fit : Fit z s) (ys : List ℕ) where
   ))
 
 -- ---- a read
-
-nothing-says : (tag : ℕ) (sgn : ℤ) (live : Bool) → told.Nothing ≡ told.Says tag sgn live → ⊥
-nothing-says tag sgn live e = let y : _≡_ {A = ℕ} 0 1 = cc in omega arith
-
-nothing-bad : told.Nothing ≡ told.Bad → ⊥
-nothing-bad e = let y : _≡_ {A = ℕ} 0 1 = cc in omega arith
-
-bad-says : (tag : ℕ) (sgn : ℤ) (live : Bool) → told.Bad ≡ told.Says tag sgn live → ⊥
-bad-says tag sgn live e = let y : _≡_ {A = ℕ} 0 1 = cc in omega arith
 
 says-reading : (v : Reading) (tag : ℕ) (sgn : ℤ) (live : Bool) → told.Says tag sgn live ≡ readOf v → says (record { tag = tag; sgn = sgn; live = live }) ≡ says v
 unfolding readOf

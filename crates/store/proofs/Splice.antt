@@ -21,12 +21,12 @@ module _ (a k : ℕ) (t : List ℕ) (fits : a + k ≤ length t) where
   part-at j l = getD-take k (drop a t) j 0 l ∙ getD-drop a t j 0
 
 -- two parts are equal where their words are
-pub part-same : (a k : ℕ) (s t : List ℕ) → a + k ≤ length s → length t ≡ length s → ((i : ℕ) → a ≤ i → i < a + k → getD t i 0 ≡ getD s i 0) → part a k t ≡ part a k s
-part-same a k s t fits same h =
-    let long : length (part a k t) ≡ k = part-length a k t (omega (arith, same)) in
+pub part-same : (a k : ℕ) (s t : List ℕ) → a + k ≤ length s → a + k ≤ length t → ((i : ℕ) → a ≤ i → i < a + k → getD t i 0 ≡ getD s i 0) → part a k t ≡ part a k s
+part-same a k s t fits there h =
+    let long : length (part a k t) ≡ k = part-length a k t there in
     ext-getD 0 (part a k t) (part a k s) (long ∙ sym (part-length a k s fits)) (λ i c.
     let c′ : i < k = omega (arith, c, long) in
-    part-at a k t (omega (arith, same)) i c′ ∙ h (a + i) (omega arith) (omega arith) ∙ sym (part-at a k s fits i c′))
+    part-at a k t there i c′ ∙ h (a + i) (omega arith) (omega arith) ∙ sym (part-at a k s fits i c′))
 
 module _ (a k : ℕ) (t : List ℕ) (fits : a + k ≤ length t) (ys : List ℕ) (long : length ys ≡ k) where
   front : length (take a t) ≡ a
@@ -67,7 +67,7 @@ module _ (a k : ℕ) (t : List ℕ) (fits : a + k ≤ length t) (ys : List ℕ) 
   -- and another part, before it or behind it, is as it was
   pub splice-other : (b j : ℕ) → b + j ≤ length t → (b + j ≤ a) ⊎ (a + k ≤ b) → part b j (splice a k t ys) ≡ part b j t
   splice-other b j there apart =
-      part-same b j t (splice a k t ys) there splice-length (λ i lo hi.
+      part-same b j t (splice a k t ys) there (omega (arith, splice-length)) (λ i lo hi.
       splice-out i (⊎-elim (λ (q : b + j ≤ a). inl (omega arith)) (λ (q : a + k ≤ b). inr (omega arith)) apart))
 
 -- put back as it was, it gives the slice again

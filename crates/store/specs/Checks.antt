@@ -28,7 +28,7 @@ pub record Framing (n l : ℕ) (s : List ℕ) : Type 0 where
   pub word : getD s 1 0 ≡ n
   pub fits : historyPlace n l ≤ length s
 
--- the header's sizes, such as an opening accepts, and all their words are there
+-- the header's sizes, each in its range, and all their words are there (an opening asks besides that 2lE is at most 2^25)
 pub record Fit (z : Sizes) (s : List ℕ) : Type 0 where
   pub framing : Framing (z .n) (z .l) s
   pub form-word : getD s 2 0 ≡ formCode (formOf (z .form))
