@@ -5,7 +5,12 @@ use session::run::last;
 use session::run::run;
 use session::run::start;
 
-// The end of the input, or a read that fails, ends the job.
+// Cannot be called: its callers prove that they do not come here.
+fn never()
+    requires { ⌜ ⊥ ⌝ }
+{}
+
+// Only the end of the input (a read of no bytes) ends a job well. After a read that fails, nothing more is said: there is no end line.
 fn main() {
     let mut t = start();
     let mut buf = [0u8; 80];
@@ -17,8 +22,13 @@ fn main() {
     while turns > 0 {
         let mut block = [0u8; 512];
         let got = libc::read(0, &mut block);
-        if got <= 0 {
-            break;
+        if got < 0 {
+            return;
+        }
+        if got == 0 {
+            let said = last(t, &mut out);
+            io::write_all(1, &out[..said]);
+            return;
         }
         let n = io::count(got, &block);
         match run(t, &block[..n], &mut buf, &mut labels, &mut store, &mut out) {
@@ -30,13 +40,12 @@ fn main() {
                 io::write_all(1, &out[..said]);
                 return;
             }
-            // On slices of other sizes.
+            // Only on slices of other sizes.
             Ran::Unfit => {
+                never();
                 return;
             }
         }
         turns -= 1;
     }
-    let said = last(t, &mut out);
-    io::write_all(1, &out[..said]);
 }

@@ -1,6 +1,6 @@
 -- What the proofs of `marking` rest on.
 pub mod RowMarks
-mod StateMarks
+pub mod StateMarks
 mod AxisMarks
 mod PutMarks
 mod MarkLaws

@@ -1,4 +1,4 @@
--- 01's worked example of the line program, computed from the definition, byte for byte; and small inputs that 01 and DESIGN.md 2.10 decide. Assumes nothing.
+-- 01's worked example of the line program, computed from the definition, byte for byte; and small inputs that 01 and docs/DECISIONS.md, 10, decide. Assumes nothing.
 use Prim.Native.Nat.{ℕ}
 use Prim.Native.String.{String}
 use mathlib.Core.Path.{_≡_, refl}
@@ -68,6 +68,19 @@ pub record Small : Type 0 where
   -- refusals print their number alone, and what was said before a bad line stays
   pub bad-after : output (lines (header "events=1" "steps=9") ++ lines ("record=y a=0 tag=4294967295" ∷ "measure=0" ∷ "kill=9" ∷ "turn=1 kind=p a=7" ∷ "gate=h  a=0" ∷ "clear=all" ∷ []))
       ≡ lines ("line=6 answer=0 id=0" ∷ "line=7 answer=6" ∷ "line=8 answer=7" ∷ "line=9 answer=8" ∷ "line=10 answer=bad" ∷ [])
+  -- a line that does not come next, a label out of order, a blank line, a CR before the newline
+  pub other-header : output (lines ("qubits=1" ∷ "gate=h a=0" ∷ [])) ≡ lines ("line=2 answer=bad" ∷ [])
+  pub header-again : output (lines (header "events=1" "steps=9") ++ lines ("qubits=1" ∷ [])) ≡ lines ("line=6 answer=bad" ∷ [])
+  pub second-first : output (lines ("qubits=2" ∷ "form=scalar" ∷ "events=1" ∷ "steps=9"
+      ∷ "label=1 x=00000000000000000000000000000001 z=0000000000000000000000000000000f" ∷ [])) ≡ lines ("line=5 answer=bad" ∷ [])
+  pub blank : output (lines (header "events=1" "steps=9") ++ lines ("" ∷ [])) ≡ lines ("line=6 answer=bad" ∷ [])
+  pub carriage : output (lines (header "events=1" "steps=9") ++ lines ("clear=all\r" ∷ [])) ≡ lines ("line=6 answer=bad" ∷ [])
+  -- ten digits are legal text, eleven are not
+  pub ten-digits : output (lines (header "events=1" "steps=9") ++ lines ("kill=9999999999" ∷ "gate=h a=4294967296" ∷ "turn=9999999999 kind=x a=0" ∷ "kill=10000000000" ∷ []))
+      ≡ lines ("line=6 answer=7" ∷ "line=7 answer=4" ∷ "line=8 answer=8" ∷ "line=9 answer=bad" ∷ [])
+  -- the end line counts blockers, and takes off what was killed
+  pub counts : output (lines (header "events=4" "steps=9") ++ lines ("reset=0" ∷ "record=z a=0 tag=1" ∷ "kill=2" ∷ "measure=0" ∷ []))
+      ≡ lines ("line=6 answer=0 id=0" ∷ "line=7 answer=0 id=2" ∷ "line=8 answer=0" ∷ "line=9 answer=0 id=3" ∷ "end=9 events=4 live=3" ∷ [])
   pub wide-tag : output (lines (header "events=1" "steps=9") ++ lines ("record=y a=0 tag=4294967296" ∷ [])) ≡ lines ("line=6 answer=bad" ∷ [])
 
 pub small : Small
@@ -83,5 +96,12 @@ small = record {
   no-events = refl;
   idle = refl;
   bad-after = refl;
+  other-header = refl;
+  header-again = refl;
+  second-first = refl;
+  blank = refl;
+  carriage = refl;
+  ten-digits = refl;
+  counts = refl;
   wide-tag = refl;
 }

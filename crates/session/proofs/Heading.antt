@@ -15,7 +15,7 @@ use Rattle.session.specs.declared.stages.Stage.{Stage}
 use Rattle.session.specs.declared.stages.Stage.the-variants as at
 use Rattle.session.specs.declared.header.Took.{Took}
 use Rattle.session.specs.declared.header.Took.the-variants as took
-use Rattle.session.proofs.Others.{Tagged, no-qubits, no-form, no-events, no-steps, no-label}
+use Rattle.session.proofs.Others.{OfTags, no-qubits, no-form, no-events, no-steps, no-label}
 
 -- ---- qubits
 module _ (l : Line) where
@@ -25,7 +25,7 @@ module _ (l : Line) where
   pub qubits-many : (n : ℕ) → l ≡ line.Qubits n → 32 < n → TakesHead at.Qubits l took.Wrong
   qubits-many n e h ls = record { near = tt; is = λ m. rw (e, lt-leb n 32 h) }
 
-  pub qubits-other : Tagged (1 ∷ 2 ∷ 3 ∷ 4 ∷ 5 ∷ 6 ∷ []) l → TakesHead at.Qubits l took.Wrong
+  pub qubits-other : OfTags (1 ∷ 2 ∷ 3 ∷ 4 ∷ 5 ∷ 6 ∷ []) l → TakesHead at.Qubits l took.Wrong
   qubits-other h ls = record { near = tt; is = λ m. no-qubits none l _ h }
 
 -- ---- form
@@ -33,7 +33,7 @@ module _ (n : ℕ) (l : Line) (few : n ≤ 32) where
   pub form-next : (f : forms.Form) → l ≡ line.Form f → TakesHead (at.Form n) l (took.Next (at.Events n f))
   form-next f e ls = record { near = few; is = λ m. rw e }
 
-  pub form-other : Tagged (0 ∷ 2 ∷ 3 ∷ 4 ∷ 5 ∷ 6 ∷ []) l → TakesHead (at.Form n) l took.Wrong
+  pub form-other : OfTags (0 ∷ 2 ∷ 3 ∷ 4 ∷ 5 ∷ 6 ∷ []) l → TakesHead (at.Form n) l took.Wrong
   form-other h ls = record { near = tt; is = λ m. no-form none l _ h }
 
 -- ---- events
@@ -44,7 +44,7 @@ module _ (n : ℕ) (f : forms.Form) (l : Line) (few : n ≤ 32) where
   pub events-many : (e : ℕ) → l ≡ line.Events e → 48 < e → TakesHead (at.Events n f) l took.Wrong
   events-many e q h ls = record { near = tt; is = λ m. rw (q, lt-leb e 48 h) }
 
-  pub events-other : Tagged (0 ∷ 1 ∷ 3 ∷ 4 ∷ 5 ∷ 6 ∷ []) l → TakesHead (at.Events n f) l took.Wrong
+  pub events-other : OfTags (0 ∷ 1 ∷ 3 ∷ 4 ∷ 5 ∷ 6 ∷ []) l → TakesHead (at.Events n f) l took.Wrong
   events-other h ls = record { near = tt; is = λ m. no-events none l _ h }
 
 -- ---- steps
@@ -52,7 +52,7 @@ module _ (n : ℕ) (f : forms.Form) (e : ℕ) (l : Line) (few : (n ≤ 32) × (e
   pub steps-next : (a : ℕ) → l ≡ line.Steps a → TakesHead (at.Steps n f e) l (took.Next (at.Labels n f e a 0))
   steps-next a q ls = record { near = (few .0, few .1, omega arith); is = λ m. rw q }
 
-  pub steps-other : Tagged (0 ∷ 1 ∷ 2 ∷ 4 ∷ 5 ∷ 6 ∷ []) l → TakesHead (at.Steps n f e) l took.Wrong
+  pub steps-other : OfTags (0 ∷ 1 ∷ 2 ∷ 4 ∷ 5 ∷ 6 ∷ []) l → TakesHead (at.Steps n f e) l took.Wrong
   steps-other h ls = record { near = tt; is = λ m. no-steps none l _ h }
 
 -- ---- labels
@@ -84,7 +84,7 @@ module _ (n : ℕ) (f : forms.Form) (e a q : ℕ) (l : Line) (ls : List ℕ) (fe
   pub label-apart : (j xh xl zh zl : ℕ) → l ≡ line.Label j xh xl zh zl → (j ≡ q → ⊥) → Takes (at.Labels n f e a q) ls l took.Wrong ls
   label-apart j xh xl zh zl u v = record { near = tt; is = λ m. rw (u, ne-eqb j q v) }
 
-  pub label-other : Tagged (0 ∷ 1 ∷ 2 ∷ 3 ∷ 5 ∷ 6 ∷ []) l → Takes (at.Labels n f e a q) ls l took.Wrong ls
+  pub label-other : OfTags (0 ∷ 1 ∷ 2 ∷ 3 ∷ 5 ∷ 6 ∷ []) l → Takes (at.Labels n f e a q) ls l took.Wrong ls
   label-other h = record { near = tt; is = λ m. no-label none l _ h }
 
 -- ---- an open store takes none of them

@@ -4,5 +4,8 @@ pub mod Counting
 pub mod Telling
 pub mod Hearing
 pub mod Playing
+pub mod Callers
+pub mod Serving
 pub mod Example
 pub mod Theorems
+pub mod ByLines

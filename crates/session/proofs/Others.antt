@@ -13,11 +13,11 @@ use Rattle.text.specs.declared.lines.Line.the-variants.{Qubits, Form, Events, S
 use Rattle.session.specs.Kinds.{asQubits, asForm, asEvents, asSteps, asLabel, asOperation}
 
 -- the tag of the line is one of these
-abbrev pub Tagged : List ℕ → Line → Type 0
-Tagged ks l = OneOf ks (tagOf the-type l)
+abbrev pub OfTags : List ℕ → Line → Type 0
+OfTags ks l = OneOf ks (tagOf the-type l)
 
 module _ {A : Type 0} (g : A) where
-  pub no-qubits : (l : Line) (f : ℕ → A) → Tagged (1 ∷ 2 ∷ 3 ∷ 4 ∷ 5 ∷ 6 ∷ []) l → asQubits l f g ≡ g
+  pub no-qubits : (l : Line) (f : ℕ → A) → OfTags (1 ∷ 2 ∷ 3 ∷ 4 ∷ 5 ∷ 6 ∷ []) l → asQubits l f g ≡ g
   no-qubits (Qubits n) f h = absurd (miss (1 ∷ 2 ∷ 3 ∷ 4 ∷ 5 ∷ 6 ∷ []) 0 tt h)
   no-qubits (Form x) f h = refl
   no-qubits (Events e) f h = refl
@@ -26,7 +26,7 @@ module _ {A : Type 0} (g : A) where
   no-qubits (Call c) f h = refl
   no-qubits (Look kind q) f h = refl
 
-  pub no-form : (l : Line) (f : forms.Form → A) → Tagged (0 ∷ 2 ∷ 3 ∷ 4 ∷ 5 ∷ 6 ∷ []) l → asForm l f g ≡ g
+  pub no-form : (l : Line) (f : forms.Form → A) → OfTags (0 ∷ 2 ∷ 3 ∷ 4 ∷ 5 ∷ 6 ∷ []) l → asForm l f g ≡ g
   no-form (Qubits n) f h = refl
   no-form (Form x) f h = absurd (miss (0 ∷ 2 ∷ 3 ∷ 4 ∷ 5 ∷ 6 ∷ []) 1 tt h)
   no-form (Events e) f h = refl
@@ -35,7 +35,7 @@ module _ {A : Type 0} (g : A) where
   no-form (Call c) f h = refl
   no-form (Look kind q) f h = refl
 
-  pub no-events : (l : Line) (f : ℕ → A) → Tagged (0 ∷ 1 ∷ 3 ∷ 4 ∷ 5 ∷ 6 ∷ []) l → asEvents l f g ≡ g
+  pub no-events : (l : Line) (f : ℕ → A) → OfTags (0 ∷ 1 ∷ 3 ∷ 4 ∷ 5 ∷ 6 ∷ []) l → asEvents l f g ≡ g
   no-events (Qubits n) f h = refl
   no-events (Form x) f h = refl
   no-events (Events e) f h = absurd (miss (0 ∷ 1 ∷ 3 ∷ 4 ∷ 5 ∷ 6 ∷ []) 2 tt h)
@@ -44,7 +44,7 @@ module _ {A : Type 0} (g : A) where
   no-events (Call c) f h = refl
   no-events (Look kind q) f h = refl
 
-  pub no-steps : (l : Line) (f : ℕ → A) → Tagged (0 ∷ 1 ∷ 2 ∷ 4 ∷ 5 ∷ 6 ∷ []) l → asSteps l f g ≡ g
+  pub no-steps : (l : Line) (f : ℕ → A) → OfTags (0 ∷ 1 ∷ 2 ∷ 4 ∷ 5 ∷ 6 ∷ []) l → asSteps l f g ≡ g
   no-steps (Qubits n) f h = refl
   no-steps (Form x) f h = refl
   no-steps (Events e) f h = refl
@@ -53,7 +53,7 @@ module _ {A : Type 0} (g : A) where
   no-steps (Call c) f h = refl
   no-steps (Look kind q) f h = refl
 
-  pub no-label : (l : Line) (f : (q xh xl zh zl : ℕ) → A) → Tagged (0 ∷ 1 ∷ 2 ∷ 3 ∷ 5 ∷ 6 ∷ []) l → asLabel l f g ≡ g
+  pub no-label : (l : Line) (f : (q xh xl zh zl : ℕ) → A) → OfTags (0 ∷ 1 ∷ 2 ∷ 3 ∷ 5 ∷ 6 ∷ []) l → asLabel l f g ≡ g
   no-label (Qubits n) f h = refl
   no-label (Form x) f h = refl
   no-label (Events e) f h = refl
@@ -62,7 +62,7 @@ module _ {A : Type 0} (g : A) where
   no-label (Call c) f h = refl
   no-label (Look kind q) f h = refl
 
-  pub no-operation : (l : Line) (f : calls.Call → A) (h : Kind → ℕ → A) → Tagged (0 ∷ 1 ∷ 2 ∷ 3 ∷ 4 ∷ []) l → asOperation l f h g ≡ g
+  pub no-operation : (l : Line) (f : calls.Call → A) (h : Kind → ℕ → A) → OfTags (0 ∷ 1 ∷ 2 ∷ 3 ∷ 4 ∷ []) l → asOperation l f h g ≡ g
   no-operation (Qubits n) f h t = refl
   no-operation (Form x) f h t = refl
   no-operation (Events e) f h t = refl

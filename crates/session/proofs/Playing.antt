@@ -1,22 +1,21 @@
 -- What the bytes of a block lead to. Assumes nothing.
 use Prim.Native.Nat.{ℕ, suc, _+_, _-_, _*_, _^_, _≤_, _<_}
 use mathlib.Core.Path.{_≡_, refl, sym, ap, ap₂, _∙_, subst}
-use mathlib.Core.Bool.{Bool, true, false, not, true≢false}
+use mathlib.Core.Bool.{Bool, true, false, cond, not, true≢false}
 use mathlib.Core.List.{List, [], _∷_, _++_, append-assoc, append-nil}
 use native.Mathlib.Omega.{arith}
 use native.Mathlib.Numerals.{add-one}
-use borrow.Author.Tests.{ne-eqb}
+use borrow.Author.Tests.{eq-eqb, ne-eqb}
 use types.Run.{miss}
 use lib.Dec.{eqb}
 use lib.ListN.{length, take, drop, getD, length-append, length-drop, drop-of-length-le}
 use lib.Seq.{length-take-le, take-all, take-append-add, drop-append-add, drop-cons, drop-drop}
 use Rattle.store.proofs.Splice.{splice}
 use Rattle.model.specs.Events.{State}
-use Rattle.model.specs.Calls.{Tally, tally}
 use Rattle.text.specs.Spoken.{Saying, bad, end, spoken}
 use Rattle.text.specs.Wrote.{Wrote}
 use Rattle.session.specs.Session.{Stage, Next, on, stop, Place, heard, saying, andThen, ran, finished, lastSaying}
-use Rattle.session.specs.Desk.{stageOf, Running, Means, Inside, placeOf, Sized, Hears, Fits, EndsRan, Plays, InsideRan, Runs, Lasts}
+use Rattle.session.specs.Desk.{stageOf, Running, Means, placeOf, Sized, Hears, Fits, EndsRan, Plays, InsideRan, Runs, closing, lastOf, Lasts}
 use Rattle.session.specs.declared.stages.Stage as code
 use Rattle.session.specs.declared.stages.Stage.the-variants as at
 use Rattle.session.specs.declared.stages.Talk.{Talk}
@@ -66,13 +65,13 @@ module _ (at : ℕ) (out ys : List ℕ) (there : at ≤ length out) (long : leng
   front : length (take at out) ≡ at
   front = length-take-le at out there
 
-  back-length : length back ≡ length out
+  pub back-length : length back ≡ length out
   back-length = ap length back-is ∙ length-append (take at out) ys ∙ omega (arith, front, long, ap length part-is, behind)
 
-  back-said : (n : ℕ) → take (at + n) back ≡ take at out ++ take n ys
+  pub back-said : (n : ℕ) → take (at + n) back ≡ take at out ++ take n ys
   back-said n = ap (take (at + n)) back-is ∙ ap (λ (k : ℕ). take (k + n) (take at out ++ ys)) (sym front) ∙ take-append-add (take at out) ys n
 
-  back-rest : (n : ℕ) → drop n ys ≡ drop n (take (length out - at) (drop at out)) → drop (at + n) back ≡ drop (at + n) out
+  pub back-rest : (n : ℕ) → drop n ys ≡ drop n (take (length out - at) (drop at out)) → drop (at + n) back ≡ drop (at + n) out
   back-rest n h =
       ap (drop (at + n)) back-is ∙ ap (λ (k : ℕ). drop (k + n) (take at out ++ ys)) (sym front) ∙ drop-append-add (take at out) ys n ∙ h ∙ ap (drop n) part-is
       ∙ drop-drop n at out
@@ -100,6 +99,7 @@ module _ (from : Talk) (input buf₀ ls₀ store₀ out₀ buf ls store out : Li
       omega (arith, p .lines, p .inside),
       record { inside = record { within = there; counts = sym (length-take-le at out there) }; rest = p .rest },
     );
+    few = omega (arith, p .room, p .inside);
     is = λ m means.
         let d = p .is m means in (
           d .0,
@@ -170,6 +170,7 @@ module _ (from : Talk) (input buf₀ ls₀ store₀ out₀ buf ls store out : Li
               inside = record { within = inside; counts = sym (length-take-le (at + n) (splice at (length out - at) out ys) inside) };
               rest = back-rest at out ys there long n (d .ends .fresh .rest) ∙ sym (drop-drop n at out) ∙ ap (drop n) (p .rest) ∙ drop-drop n at out₀;
             };
+            few = omega (arith, p .room, d .ends .few);
             is = λ m means.
                 let a = p .is m means in
                 let b = d .is (a .0) (a .1) in (
@@ -182,49 +183,59 @@ module _ (from : Talk) (input buf₀ ls₀ store₀ out₀ buf ls store out : Li
 
 -- ---- the end of the input
 
+early : (s : code.Stage) → At (0 ∷ 1 ∷ 2 ∷ 3 ∷ 4 ∷ []) s → (line : ℕ) → closing line s ≡ bad (line + 1)
+early at.Qubits h line = refl
+early (at.Form n) h line = refl
+early (at.Events n f) h line = refl
+early (at.Steps n f E) h line = refl
+early (at.Labels n f E A q) h line = refl
+early (at.Running e l) h line = absurd (miss (0 ∷ 1 ∷ 2 ∷ 3 ∷ 4 ∷ []) 5 tt h)
+
 module _ (t : Talk) (out : List ℕ) where
   pub last-past : 4611686018427387904 < t .line → Lasts t out 0 out
-  last-past h = record { inside = record { within = omega arith; counts = refl }; is = λ few. absurd (past few) }
+  last-past h = record { inside = record { within = omega arith; counts = refl }; near = λ few. absurd (past few); far = λ far. (refl, refl) }
     where
       past : t .line ≤ 2 ^ 62 → ⊥
       past few = omega arith
 
-  module _ (n : ℕ) (out′ : List ℕ) where
-    inside-of : {x : List ℕ} → Wrote out 0 x out′ n → Inside n out′
-    inside-of w = record { within = w .within; counts = w .counts }
+  module _ (n : ℕ) (out′ : List ℕ) (few : t .line ≤ 4611686018427387904) where
+    lasts : (s : Saying) → lastOf t ≡ s → Wrote out 0 (spoken s) out′ n → Lasts t out n out′
+    lasts s e w = record {
+      inside = record { within = w .within; counts = w .counts };
+      near = λ h. subst (λ (x : Saying). Wrote out 0 (spoken x) out′ n) (sym e) w;
+      far = λ far. absurd (past far);
+    }
+      where
+        past : 2 ^ 62 < t .line → ⊥
+        past far = omega arith
 
     pub last-held : 0 < t .held → Wrote out 0 (spoken (bad (t .line + 1))) out′ n → Lasts t out n out′
-    unfolding lastSaying
-    last-held h w = record { inside = inside-of w; is = λ few buf ls store m fits means. go buf ls m fits }
-      where
-        go : (buf ls : List ℕ) (m : State) → t .held ≤ length buf → Wrote out 0 (spoken (lastSaying (placeOf t buf ls m))) out′ n
-        go buf ls m fits =
-            let a : length (take (t .held) buf) ≡ t .held = length-take-le (t .held) buf fits in
-            rw (ne-eqb (length (take (t .held) buf)) 0 (λ (z : length (take (t .held) buf) ≡ 0). omega arith)) w
+    unfolding lastOf
+    last-held h w = lasts (bad (t .line + 1)) (rw (ne-eqb (t .held) 0 (λ (z : t .held ≡ 0). omega arith))) w
 
-    whole-lines : t .held ≤ 0 → (buf : List ℕ) → eqb (length (take (t .held) buf)) 0 ≡ true
-    whole-lines h buf = let z : t .held ≡ 0 = omega arith in ap (λ (k : ℕ). eqb (length (take k buf)) 0) z
+    none-held : t .held ≤ 0 → lastOf t ≡ closing (t .line) (t .stage)
+    unfolding lastOf
+    none-held h = let z : t .held ≡ 0 = omega arith in rw (eq-eqb (t .held) 0 z)
 
     pub last-end : (e l : ℕ) → t .stage ≡ at.Running e l → t .held ≤ 0 → Wrote out 0 (spoken (end (t .line) (record { events = e; live = l }))) out′ n → Lasts t out n out′
-    unfolding lastSaying
-    last-end e l u h w = record { inside = inside-of w; is = λ few buf ls store m fits means. go buf ls store m (subst (λ (x : code.Stage). Means x store m) u means) }
-      where
-        go : (buf ls store : List ℕ) (m : State) → Running e l store m → Wrote out 0 (spoken (lastSaying (placeOf t buf ls m))) out′ n
-        go buf ls store m r =
-            let a : record { events = e; live = l } ≡ tally m = ap₂ (λ (i j : ℕ). record { events = i; live = j }) (r .events) (r .live) in
-            rw (whole-lines h buf, u) (subst (λ (x : Tally). Wrote out 0 (spoken (end (t .line) x)) out′ n) a w)
+    last-end e l u h w = lasts (end (t .line) (record { events = e; live = l })) (none-held h ∙ ap (closing (t .line)) u) w
 
     pub last-early : At (0 ∷ 1 ∷ 2 ∷ 3 ∷ 4 ∷ []) (t .stage) → t .held ≤ 0 → Wrote out 0 (spoken (bad (t .line + 1))) out′ n → Lasts t out n out′
-    unfolding lastSaying
-    last-early u h w = record { inside = inside-of w; is = λ few buf ls store m fits means. rw (whole-lines h buf) (subst (λ (x : Saying). Wrote out 0 (spoken x) out′ n) (sym (early (t .stage) u ls m)) w) }
-      where
-        early : (s : code.Stage) → At (0 ∷ 1 ∷ 2 ∷ 3 ∷ 4 ∷ []) s → (ls : List ℕ) (m : State) → finished (t .line) (stageOf s ls m) ≡ bad (t .line + 1)
-        early at.Qubits v ls m = refl
-        early (at.Form n) v ls m = refl
-        early (at.Events n f) v ls m = refl
-        early (at.Steps n f E) v ls m = refl
-        early (at.Labels n f E A q) v ls m = refl
-        early (at.Running e l) v ls m = absurd (miss (0 ∷ 1 ∷ 2 ∷ 3 ∷ 4 ∷ []) 5 tt v)
+    last-early u h w = lasts (bad (t .line + 1)) (none-held h ∙ early (t .stage) u (t .line)) w
+
+-- what the end is told is what the session says there
+closing-is : (s : code.Stage) (line : ℕ) (ls store : List ℕ) (m : State) → Means s store m → closing line s ≡ finished line (stageOf s ls m)
+closing-is at.Qubits line ls store m means = refl
+closing-is (at.Form n) line ls store m means = refl
+closing-is (at.Events n f) line ls store m means = refl
+closing-is (at.Steps n f E) line ls store m means = refl
+closing-is (at.Labels n f E A q) line ls store m means = refl
+closing-is (at.Running e l) line ls store m means = ap (end line) (ap₂ (λ (i j : ℕ). record { events = i; live = j }) (means .events) (means .live))
+
+pub last-is : (t : Talk) (buf ls store : List ℕ) (m : State) → t .held ≤ length buf → Means (t .stage) store m → lastOf t ≡ lastSaying (placeOf t buf ls m)
+unfolding lastOf lastSaying
+last-is t buf ls store m fits means =
+    ap₂ (λ (k : ℕ) (x : Saying). cond (eqb k 0) x (bad (t .line + 1))) (sym (length-take-le (t .held) buf fits)) (closing-is (t .stage) (t .line) ls store m means)
 
 -- ---- any slices
 

@@ -29,6 +29,7 @@ use Rattle.store.specs.declared.answers.Answer.the-variants as answer
 use Rattle.store.specs.declared.answers.Sight.{Sight}
 use Rattle.store.proofs.answers.Answer as answers
 use Rattle.store.proofs.LentLaws.{held-good}
+use Rattle.marking.proofs.StateMarks.{record-given}
 use Rattle.partner.specs.Calls.{callIn}
 use Rattle.partner.specs.declared.calls.Call.{Call}
 use Rattle.partner.specs.declared.calls.Call.the-variants as calls
@@ -49,7 +50,7 @@ use Rattle.session.specs.declared.header.Took.the-variants as took
 use Rattle.session.specs.declared.desk.Told.{Told}
 use Rattle.session.specs.declared.desk.Told.the-variants as telling
 use Rattle.session.proofs.stages.Stage as stages
-use Rattle.session.proofs.Others.{Tagged, no-operation}
+use Rattle.session.proofs.Others.{OfTags, no-operation}
 use Rattle.session.proofs.Counting.{counted-is}
 
 -- ---- what is written
@@ -130,20 +131,15 @@ module _ (c : Call) (a : Answer) (e l : ℕ) where
 -- ---- an operation
 
 -- calls but openings leave what the opening gave
-all-given : (es : List Event) (s : State) → recordAll es s .given ≡ s .given
-unfolding recordAll record1
-all-given [] s = refl
-all-given (e ∷ es) s = all-given es (record1 e s)
-
 effect-given : (c : Call) (w : ℕ) (m : State) → effect (callIn c) w m .given ≡ m .given
 unfolding callIn effect record1 reframed kill clear
 effect-given (calls.Gate g) w m = refl
 effect-given (calls.Turn kind k q) w m = refl
 effect-given (calls.Record kind q tag) w m = refl
 effect-given (calls.Measure q) w m = refl
-effect-given (calls.Reset q) w m = all-given _ m
-effect-given (calls.Ccx a b t) w m = all-given _ m
-effect-given (calls.Ccz a b t) w m = all-given _ m
+effect-given (calls.Reset q) w m = record-given _ m
+effect-given (calls.Ccx a b t) w m = record-given _ m
+effect-given (calls.Ccz a b t) w m = record-given _ m
 effect-given (calls.Kill id) w m = refl
 effect-given calls.Clear w m = refl
 
@@ -225,7 +221,7 @@ module _ (ln e l : ℕ) (x : Line) (store out : List ℕ) (r : Told) (store′ o
       → Does (operated ln x) e l store out r store′ out′
   look-line kind q u h = subst (λ (y : Line). Does (operated ln y) e l store out r store′ out′) (sym u) h
 
-pub other-line : (ln e l : ℕ) (x : Line) (store out : List ℕ) (n : ℕ) (out′ : List ℕ) → Tagged (0 ∷ 1 ∷ 2 ∷ 3 ∷ 4 ∷ []) x → 128 ≤ length out
+pub other-line : (ln e l : ℕ) (x : Line) (store out : List ℕ) (n : ℕ) (out′ : List ℕ) → OfTags (0 ∷ 1 ∷ 2 ∷ 3 ∷ 4 ∷ []) x → 128 ≤ length out
     → Wrote out 0 (spoken (bad ln)) out′ n → Does (operated ln x) e l store out (telling.Stop n) store out′
 other-line ln e l x store out n out′ h wide w = record {
   ends = said-of (bad ln) out out′ n w wide;

@@ -1,24 +1,27 @@
 -- THE THEOREMS of the line program (docs/PROMISES.md): what a session says to an input in blocks of any size is `output` of the whole input; what was said
 -- stays said; no store is too small. 01's example is in Example.antt. Assumes nothing.
-use Prim.Native.Nat.{ℕ, _+_, _*_, _/_, _≤_}
-use mathlib.Core.Path.{_≡_, refl, sym, ap, _∙_, subst}
+use Prim.Native.Nat.{ℕ, _+_, _*_, _/_, _^_, _≤_}
+use mathlib.Core.Path.{_≡_, refl, sym, ap, _∙_}
 use mathlib.Core.List.{List, [], _∷_, _++_, append-assoc}
+use mathlib.Core.Bool.{Bool, true, false, cond, not, _||_}
 use native.Mathlib.Omega.{arith}
 use native.Mathlib.Nat.{le-trans, mul-le-mul-left, mul-le-mul-right}
-use lib.ListN.{take}
+use borrow.Author.Tests.{eq-eqb, le-ltb}
+use lib.Dec.{eqb, ltb}
+use lib.ListN.{length, take}
 use Rattle.model.specs.Events.{State, Form, scalar, sliced, words}
 use Rattle.model.specs.Store.{headerRoom, frameRoom, sketchRoom, listCount, countRoom, chainRoom, eventRoom, liveRoom, axisRoom, listRoom, need}
-use Rattle.model.specs.Calls.{opened, opening}
+use Rattle.model.specs.Calls.{tooWide, openNumber, openAnswer, opening}
 use Rattle.text.specs.Spoken.{spoken}
 use Rattle.text.proofs.Room.{spoken-whole}
-use Rattle.session.specs.Session.{room, qubits, Next, on, stop, Place, start, heard, saying, andThen, ran, lastSaying, whole, output}
-use Rattle.session.specs.Desk.{Means, placeOf, placeRan, MeansRan, Begins}
+use Rattle.session.specs.Session.{room, Next, on, stop, Place, start, heard, saying, andThen, ran, lastSaying, whole, output}
+use Rattle.session.specs.Desk.{Means, placeOf, placeRan, MeansRan, lastOf, Begins}
 use Rattle.session.specs.Blocks.{joined, Left, Follows, Serves}
-use Rattle.session.specs.declared.stages.Stage as code
 use Rattle.session.specs.declared.stages.Talk.{Talk}
 use Rattle.session.specs.declared.run.Ran.{Ran}
 use Rattle.session.specs.declared.run.Ran.the-variants as runs
-use Rattle.session.proofs.Playing.{saying-none, saying-both}
+use Rattle.session.proofs.Playing.{saying-none, saying-both, last-is}
+use Rattle.session.proofs.Serving.{nothing, start-means, start-place}
 
 -- ---- the store
 
@@ -46,7 +49,7 @@ ran-append p (c ∷ a) b = go (heard p c) (λ q. ran-append q a b)
     go (on q t) same = ap (saying t) (same q) ∙ saying-then t (ran q a) (λ z. ran z b)
     go (stop t) same = refl
 
-whole-saying : (t : List ℕ) (x : Next Place) → whole (saying t x) ≡ t ++ whole x
+pub whole-saying : (t : List ℕ) (x : Next Place) → whole (saying t x) ≡ t ++ whole x
 whole-saying t (on p u) = append-assoc t u (spoken (lastSaying p))
 whole-saying t (stop u) = refl
 
@@ -79,7 +82,7 @@ serves-on : (bs : List (List ℕ)) (t : Talk) (buf ls store said : List ℕ) →
     → said ≡ whole (ran (placeOf t buf ls m) (joined bs))
 unfolding joined ran
 serves-on [] t buf ls store said h m means =
-    h .7 ∙ spoken-whole (h .0) (lastSaying (placeOf t buf ls m)) (h .1) (h .2) (h .3 .is (h .5) buf ls store m (h .6) means) (h .4) .start
+    h .7 ∙ spoken-whole (h .0) (lastOf t) (h .1) (h .2) (h .3 .near (h .5)) (h .4) .start ∙ ap spoken (last-is t buf ls store m (h .6) means)
 serves-on (b ∷ bs) t buf ls store said h m means =
     let p = h .3 .fit (h .2) .is m means in
     after-block t buf ls m b (joined bs) (h .1) said (λ t′ rest. Serves t′ (h .1 .buf) (h .1 .labels) (h .1 .store) bs rest)
@@ -87,17 +90,9 @@ serves-on (b ∷ bs) t buf ls store said h m means =
 
 -- what a session hands out in all to an input in blocks is `output` of the input
 pub serves-output : (bs : List (List ℕ)) (t : Talk) (buf ls store said : List ℕ) → Begins t → Serves t buf ls store bs said → said ≡ output (joined bs)
-unfolding output start
+unfolding output
 serves-output bs t buf ls store said h s =
-    serves-on bs t buf ls store said s nothing (subst (λ (x : code.Stage). Means x store nothing) (sym (h .2)) tt)
-    ∙ ap (λ (p : Place). whole (ran p (joined bs))) (first t h)
-  where
-    -- before an opening any state will do
-    nothing : State
-    nothing = opened (opening 0 0 0 scalar [] 0)
-
-    first : (u : Talk) → Begins u → placeOf u buf ls nothing ≡ record { line = 0; held = []; stage = qubits }
-    first u b = rw (b .0, b .1, b .2)
+    serves-on bs t buf ls store said s nothing (start-means t h store) ∙ ap (λ (p : Place). whole (ran p (joined bs))) (start-place t h buf ls)
 
 -- ---- no store is too small
 
@@ -117,3 +112,16 @@ room-enough n E sliced a b =
     let masks : (2 * n + 1) * ((E + 63) / 64) ≤ 65 * 1 = times (2 * n + 1) 65 ((E + 63) / 64) 1 (omega arith) v in
     let lists : n * (E + (2 * n + 1) * ((E + 63) / 64)) ≤ 32 * 113 = times n 32 (E + (2 * n + 1) * ((E + 63) / 64)) 113 a (omega arith) in
     omega arith
+
+-- so `open=3` does not come
+pub never-three : (n E A : ℕ) (f : Form) (ws : List ℕ) → n ≤ 32 → E ≤ 48 → length ws ≡ 4 * n → openAnswer (opening n E A f ws room) ≡ 3 → ⊥
+unfolding openAnswer openNumber opening
+never-three n E A f ws a b h =
+    let labels : eqb (length ws) (4 * n) ≡ true = eq-eqb (length ws) (4 * n) h in
+    let store : ltb room (need n E f) ≡ false = le-ltb room (need n E f) (room-enough n E f a b) in
+    rw (labels, store) (go (eqb n 0 || ltb (2 ^ 25) (4 * n * words n) || ltb (2 ^ 20) A || tooWide f n) (eqb E 0 || ltb (2 ^ 25) (2 * words n * E)))
+  where
+    go : (x y : Bool) → _≡_ {A = ℕ} (cond x 1 (cond y 2 0)) 3 → ⊥
+    go true y e = omega arith
+    go false true e = omega arith
+    go false false e = omega arith

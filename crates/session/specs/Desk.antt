@@ -1,7 +1,9 @@
 -- What the values and the lent words of the code stand for in the session, and the promises of its functions. m is the state that the store holds; where a
 -- job has opened none yet, any. Assumes nothing.
-use Prim.Native.Nat.{ℕ, _+_, _-_, _*_, _/_, _^_, _≤_, _<_}
+use Prim.Native.Nat.{ℕ, _+_, _-_, _*_, _^_, _≤_, _<_}
 use mathlib.Core.Path.{_≡_}
+use mathlib.Core.Bool.{cond}
+use lib.Dec.{eqb}
 use mathlib.Core.List.{List, []}
 use lib.ListN.{length, take, drop}
 use Rattle.model.specs.Events.{State}
@@ -10,10 +12,10 @@ use Rattle.history.specs.Sizes.{formOf}
 use Rattle.store.specs.Stores.{Held}
 use Rattle.partner.specs.declared.calls.Call.{Call}
 use Rattle.partner.specs.declared.calls.Call.the-variants as calls
-use Rattle.text.specs.Spoken.{spoken}
+use Rattle.text.specs.Spoken.{Saying, bad, end, spoken}
 use Rattle.text.specs.Wrote.{Wrote}
 use Rattle.text.specs.declared.lines.Line.{Line}
-use Rattle.session.specs.Session.{Stage, qubits, form, events, steps, labelling, running, Next, on, stop, Headed, next, none, headed, room, Place, heard, ran, lastSaying}
+use Rattle.session.specs.Session.{Stage, qubits, form, events, steps, labelling, running, Next, on, stop, Headed, next, none, headed, room, Place, heard, ran, output}
 use Rattle.session.specs.declared.stages.Stage as code
 use Rattle.session.specs.declared.stages.Stage.the-variants as at
 use Rattle.session.specs.declared.stages.Talk.{Talk}
@@ -25,6 +27,8 @@ use Rattle.session.specs.declared.run.Heard.{Heard}
 use Rattle.session.specs.declared.run.Heard.the-variants as hears
 use Rattle.session.specs.declared.run.Ran.{Ran}
 use Rattle.session.specs.declared.run.Ran.the-variants as runs
+use Rattle.session.specs.declared.run.Served.{Served}
+use Rattle.session.specs.declared.run.Served.the-variants as served
 
 -- ---- stages
 
@@ -51,7 +55,7 @@ Means (at.Steps n f E) store m = Unit {0}
 Means (at.Labels n f E A q) store m = Unit {0}
 Means (at.Running e l) store m = Running e l store m
 
--- the numbers that a stage holds, right behind a header or label line: all labels may be read
+-- the numbers of a stage right behind a header or label line, before the opening is tried: q may be n
 abbrev pub Near : code.Stage → Type 0
 Near at.Qubits = Unit {0}
 Near (at.Form n) = n ≤ 32
@@ -60,7 +64,7 @@ Near (at.Steps n f E) = (n ≤ 32) × (E ≤ 48)
 Near (at.Labels n f E A q) = (n ≤ 32) × (E ≤ 48) × (q ≤ n)
 Near (at.Running e l) = ⊥
 
--- the same between two lines: the opening is tried at once
+-- the same between two lines: the opening was tried where q was n
 abbrev pub Within : code.Stage → Type 0
 Within at.Qubits = Unit {0}
 Within (at.Form n) = n ≤ 32
@@ -197,12 +201,13 @@ pub record Hears (t : Talk) (buf ls store out : List ℕ) (b : ℕ) (r : Heard) 
 -- what `run` asks: those sizes, 128 bytes of out for each byte of the input, and a number of lines that is far from 2^64
 pub record Fits (t : Talk) (input buf labels store out : List ℕ) : Type 0 where
   pub sized : Sized t buf labels store
-  pub room : length input ≤ length out / 128
+  pub room : 128 * length input ≤ length out
   pub lines : t .line ≤ 2 ^ 62
 
 abbrev pub placeRan : Ran → (buf labels out : List ℕ) → State → Next Place
 placeRan (runs.On t n) buf ls out m = on (placeOf t buf ls m) (take n out)
 placeRan (runs.Stop n) buf ls out m = stop (take n out)
+-- any will do: `EndsRan` excludes it
 placeRan runs.Unfit buf ls out m = stop []
 
 abbrev pub EndsRan : Ran → (buf labels store out out′ : List ℕ) → (lines : ℕ) → Type 0
@@ -215,9 +220,16 @@ MeansRan (runs.On t n) store m = Means (t .stage) store m
 MeansRan (runs.Stop n) store m = Unit {0}
 MeansRan runs.Unfit store m = Unit {0}
 
+-- at most 128 bytes are said to each byte of the input
+abbrev pub RoomRan : Ran → (bytes : ℕ) → Type 0
+RoomRan (runs.On t n) bytes = n ≤ 128 * bytes
+RoomRan (runs.Stop n) bytes = n ≤ 128 * bytes
+RoomRan runs.Unfit bytes = Unit {0}
+
 -- some bytes, on slices that fit
 pub record Plays (t : Talk) (input buf ls store out : List ℕ) (r : Ran) (buf′ ls′ store′ out′ : List ℕ) : Type 0 where
   pub ends : EndsRan r buf′ ls′ store′ out out′ (t .line + length input)
+  pub few : RoomRan r (length input)
   pub is : (m : State) → Means (t .stage) store m → (m′ : State) × MeansRan r store′ m′ × (ran (placeOf t buf ls m) input ≡ placeRan r buf′ ls′ out′ m′)
 
 abbrev pub InsideRan : Ran → (out : List ℕ) → Type 0
@@ -231,11 +243,28 @@ pub record Runs (t : Talk) (input buf ls store out : List ℕ) (r : Ran) (buf′
   pub fit : Fits t input buf ls store out → Plays t input buf ls store out r buf′ ls′ store′ out′
   pub unfit : (Fits t input buf ls store out → ⊥) → (r ≡ runs.Unfit) × (buf′ ≡ buf) × (ls′ ≡ ls) × (store′ ≡ store) × (out′ ≡ out)
 
--- the promise of `last`: what the end of the input is told, whatever words the job's slices have
+-- what the end of the input is told, from the talk alone (`last-is`: it is `lastSaying` of the session)
+abbrev pub closing : (line : ℕ) → code.Stage → Saying
+closing line at.Qubits = bad (line + 1)
+closing line (at.Form n) = bad (line + 1)
+closing line (at.Events n f) = bad (line + 1)
+closing line (at.Steps n f E) = bad (line + 1)
+closing line (at.Labels n f E A q) = bad (line + 1)
+closing line (at.Running e l) = end line (record { events = e; live = l })
+
+unfoldable pub lastOf : Talk → Saying
+lastOf t = cond (eqb (t .held) 0) (closing (t .line) (t .stage)) (bad (t .line + 1))
+
+-- the promise of `last`; past 2^62 lines, which `run` does not reach, nothing is written
 pub record Lasts (t : Talk) (out : List ℕ) (n : ℕ) (out′ : List ℕ) : Type 0 where
   pub inside : Inside n out′
-  pub is : t .line ≤ 2 ^ 62 → (buf ls store : List ℕ) (m : State) → t .held ≤ length buf → Means (t .stage) store m
-      → Wrote out 0 (spoken (lastSaying (placeOf t buf ls m))) out′ n
+  pub near : t .line ≤ 2 ^ 62 → Wrote out 0 (spoken (lastOf t)) out′ n
+  pub far : 2 ^ 62 < t .line → (n ≡ 0) × (out′ ≡ out)
 
 abbrev pub Begins : Talk → Type 0
 Begins t = (t .line ≡ 0) × (t .held ≡ 0) × (t .stage ≡ at.Qubits)
+
+-- the promise of `serve`: a whole input, in out of 128 bytes for each byte of it and 128 more
+pub record ServesAll (input out : List ℕ) (r : Served) (out′ : List ℕ) : Type 0 where
+  pub fit : 128 * (length input + 1) ≤ length out → (n : ℕ) × (r ≡ served.All n) × Fresh n out out′ × (take n out′ ≡ output input)
+  pub unfit : length out < 128 * (length input + 1) → (r ≡ served.Unfit) × (out′ ≡ out)

@@ -1,5 +1,5 @@
--- WHAT THE LINE PROGRAM SAYS on an input, bytes in and bytes out (`output`): 01, "The line program", and DESIGN.md 2.10 where 01 leaves it open. Lines are
--- read by `text`'s `readingOf`, answered by `model`'s calls and written by `text`'s `spoken`. It computes. Assumes nothing.
+-- WHAT THE LINE PROGRAM SAYS on an input, bytes in and bytes out (`output`): 01, "The line program", and docs/DECISIONS.md, 10, where 01 leaves it open. Lines are
+-- read by `text`'s `readingOf`, the inverse of their printer (`reading-reads`), answered by `model`'s calls and written by `text`'s `spoken`. It computes. Assumes nothing.
 use Prim.Native.Nat.{ℕ, _+_}
 use mathlib.Core.Bool.{cond}
 use mathlib.Core.List.{List, [], _∷_, _++_}

@@ -11,7 +11,7 @@ use partner::calls::open;
 use store::answers::Answer;
 use text::answers::write_answer;
 use text::answers::write_bad;
-use text::answers::write_refused;
+use text::answers::write_not_opened;
 use text::answers::write_sight;
 use text::lines::Line;
 use text::lines::Parsed;
@@ -51,7 +51,7 @@ fn try_open(
 {
     let end = 4 * n;
     match open(store, n, events, steps, form, &labels[..end]) {
-        Answer::Refused(k) => Told::Stop(write_refused(k, out)),
+        Answer::Refused(k) => Told::Stop(write_not_opened(k, out)),
         _ => Told::On(Stage::Running { events: 0, live: 0 }, 0),
     }
 }
@@ -108,7 +108,8 @@ fn kills(c: Call) -> u64
     }
 }
 
-// The counts of the end line after a call and its answer: "events recorded less events killed". On a store of this program there are at most 48 events.
+// The counts of the end line after a call and its answer: "events recorded less events killed". On a store of this program there are at most 48 events;
+// the two tests keep the sums in 64 bits on any other.
 fn count(c: Call, a: Answer, events: u64, live: u64) -> Stage
     ensures { λ r. ⌜ Counts c (promised a) events live r ⌝ }
 {
@@ -146,6 +147,7 @@ fn count(c: Call, a: Answer, events: u64, live: u64) -> Stage
     }
 }
 
+// a - b, or 0.
 fn less(a: u64, b: u64) -> u64
     ensures { λ r. ⌜ r ≡ a - b ⌝ }
 {

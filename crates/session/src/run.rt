@@ -10,7 +10,7 @@ ghost use mathlib.Core.Path.{_≡_};
 ghost use mathlib.Core.Bool.{true, false};
 ghost use lib.ListN.{length};
 ghost use Rattle.session.specs.declared.stages.Stage.the-variants as at;
-ghost use Rattle.session.specs.Desk.{Sized, Hears, Fits, Plays, Runs, Lasts, Begins, Within};
+ghost use Rattle.session.specs.Desk.{Sized, Hears, Fits, Plays, Runs, Lasts, Begins, Within, ServesAll};
 
 // To go on, or to stop; with how many bytes are said.
 enum Heard {
@@ -18,7 +18,7 @@ enum Heard {
     Stop(usize),
 }
 
-// The same of a block; or the lent slices are not of the sizes that `run` names, and nothing was done.
+// The same of a block; or `run` was lent slices of other sizes than it names, or a talk that is none of its own, and nothing was done.
 pub enum Ran {
     On(Talk, usize),
     Stop(usize),
@@ -132,6 +132,7 @@ fn fits(t: Talk, input: &[u8], buf: &[u8], labels: &[u64], store: &[u64], out: &
     if t.held > 80 {
         return false;
     }
+    // 2^62, far from the last number of 64 bits
     if t.line > 4611686018427387904 {
         return false;
     }
@@ -187,7 +188,7 @@ pub fn run(
     play(t, input, buf, labels, store, out)
 }
 
-// What the end of the input is told.
+// Writes what is said at the end of the input, into 128 bytes of out or as much as there is; past 2^62 lines nothing.
 pub fn last(t: Talk, out: &mut [u8]) -> usize
     ensures { λ r. ⌜ Lasts t (now (out .entry)) r (now (out .exit)) ⌝ }
 {
@@ -202,5 +203,31 @@ pub fn last(t: Talk, out: &mut [u8]) -> usize
     match stage {
         Stage::Running { events, live } => write_end(line, events, live, out),
         _ => write_bad(line + 1, out),
+    }
+}
+
+// How many bytes were said to a whole input; or out is too short, and nothing was done.
+pub enum Served {
+    All(usize),
+    Unfit,
+}
+
+// A whole job at once. Lent is out: 128 bytes for each byte of the input, and 128 more.
+pub fn serve(input: &[u8], out: &mut [u8]) -> Served
+    ensures { λ r. ⌜ ServesAll (now (input .entry)) (now (out .entry)) r (now (out .exit)) ⌝ }
+{
+    if input.len() >= out.len() / 128 {
+        return Served::Unfit;
+    }
+    let mut buf = [0u8; 80];
+    let mut labels = [0u64; 128];
+    let mut store = [0u64; 4449];
+    match run(start(), input, &mut buf, &mut labels, &mut store, out) {
+        Ran::On(t, n) => {
+            let k = last(t, &mut out[n..]);
+            Served::All(n + k)
+        }
+        Ran::Stop(n) => Served::All(n),
+        Ran::Unfit => Served::Unfit,
     }
 }

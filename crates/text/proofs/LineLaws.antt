@@ -16,7 +16,7 @@ use Rattle.partner.specs.declared.calls.Call.the-variants as call
 use Rattle.text.specs.Shape.{itemOf, bytes, print, limits, Below, Good}
 use Rattle.text.specs.Taken.{nibble}
 use Rattle.text.specs.Fit.{fitted, zeros, pushes}
-use Rattle.text.specs.Line.{numberOf, shapeOf, values, text, Legal, Reads, shapeAt, kindOf, lineOf, Tagged}
+use Rattle.text.specs.Line.{numberOf, shapeOf, values, text, Legal, Reads, shapeAt, kindNumbered, lineOf, TagFits}
 use Rattle.text.specs.declared.shapes.Five.{Five}
 use Rattle.text.specs.declared.shapes.Fit.the-variants.{Hit, Miss}
 use Rattle.text.specs.declared.lines.Line.{Line}
@@ -63,7 +63,7 @@ five-places l m n o p (a ∷ b ∷ vs) g = let q = three-places n o p vs (g .1 .
 
 -- ---- the kinds and their numbers
 
-kind-number : (k : ℕ) → k < 4 → numberOf (kindOf k) ≡ k
+kind-number : (k : ℕ) → k < 4 → numberOf (kindNumbered k) ≡ k
 kind-number k h =
     decided (eqb k 0) (λ x. simp x (sym (eqb-true _ _ x)))
     (λ x. decided (eqb k 1) (λ y. simp (x, y) (sym (eqb-true _ _ y)))
@@ -74,7 +74,7 @@ kind-number k h =
     let e : 3 ≡ k = omega arith in
     simp (x, y, z) e)))
 
-kept-kind : (t : Kind) → kindOf (numberOf t) ≡ t
+kept-kind : (t : Kind) → kindNumbered (numberOf t) ≡ t
 kept-kind kind.X = refl
 kept-kind kind.Y = refl
 kept-kind kind.Z = refl
@@ -192,20 +192,20 @@ back =
     let b14 : Back 14 = two 14 (λ a b. line.Call (call.Gate (gate.Cz a b))) (λ a b. refl) (λ a b h. refl) refl in
     let b15 : Back 15 = two 15 (λ a b. line.Call (call.Gate (gate.Cy a b))) (λ a b. refl) (λ a b h. refl) refl in
     let b16 : Back 16 = two 16 (λ a b. line.Call (call.Gate (gate.Swap a b))) (λ a b. refl) (λ a b h. refl) refl in
-    let b17 : Back 17 = three 17 (λ k t a. line.Call (call.Turn (kindOf t) k a)) (λ k t a. refl) (λ k t a h m. ap (λ (x : ℕ). k ∷ x ∷ a ∷ []) (kind-number t m)) refl in
-    let b18 : Back 18 = three 18 (λ t a g. line.Call (call.Record (kindOf t) a g)) (λ t a g. refl) (λ t a g h m. ap (λ (x : ℕ). x ∷ a ∷ g ∷ []) (kind-number t h)) refl in
+    let b17 : Back 17 = three 17 (λ k t a. line.Call (call.Turn (kindNumbered t) k a)) (λ k t a. refl) (λ k t a h m. ap (λ (x : ℕ). k ∷ x ∷ a ∷ []) (kind-number t m)) refl in
+    let b18 : Back 18 = three 18 (λ t a g. line.Call (call.Record (kindNumbered t) a g)) (λ t a g. refl) (λ t a g h m. ap (λ (x : ℕ). x ∷ a ∷ g ∷ []) (kind-number t h)) refl in
     let b19 : Back 19 = one 19 (λ a. line.Call (call.Measure a)) (λ a. refl) (λ a. refl) refl in
     let b20 : Back 20 = one 20 (λ a. line.Call (call.Reset a)) (λ a. refl) (λ a. refl) refl in
     let b21 : Back 21 = three 21 (λ a b c. line.Call (call.Ccx a b c)) (λ a b c. refl) (λ a b c h m. refl) refl in
     let b22 : Back 22 = three 22 (λ a b c. line.Call (call.Ccz a b c)) (λ a b c. refl) (λ a b c h m. refl) refl in
     let b23 : Back 23 = one 23 (λ a. line.Call (call.Kill a)) (λ a. refl) (λ a. refl) refl in
     let b24 : Back 24 = none 24 (line.Call call.Clear) refl refl refl in
-    let b25 : Back 25 = two 25 (λ t a. line.Look (kindOf t) a) (λ t a. refl) (λ t a h. ap (λ (x : ℕ). x ∷ a ∷ []) (kind-number t h)) refl in
+    let b25 : Back 25 = two 25 (λ t a. line.Look (kindNumbered t) a) (λ t a. refl) (λ t a h. ap (λ (x : ℕ). x ∷ a ∷ []) (kind-number t h)) refl in
     each 26 Back
     ((((((((((((((((((((((((((tt, b0), b1), b2), b3), b4), b5), b6), b7), b8), b9), b10), b11), b12), b13), b14), b15), b16), b17), b18), b19), b20), b21), b22), b23), b24), b25)
 
 -- a tag is one of 32 bits
-pub tagged : (s : List ℕ) (k : ℕ) (f : Five) → fitted (shapeAt k) zeros s ≡ Hit f → Tagged k f
+pub tagged : (s : List ℕ) (k : ℕ) (f : Five) → fitted (shapeAt k) zeros s ≡ Hit f → TagFits k f
 unfolding limits itemOf
 tagged s k f h e =
     let q = sound (shapeAt k) zeros s f h in

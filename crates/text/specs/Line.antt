@@ -1,5 +1,5 @@
 -- The lines of the input, after 01, "The line program": a line's text is its shape with its values, and reading is the inverse of that. Qubits, events
--- and ids are any numbers of ten digits here: what is too large is refused by the call, or by the program. Assumes nothing.
+-- and ids are any numbers of at most ten digits here: what is too large is refused by the call, or by the program. Assumes nothing.
 use Prim.Native.Nat.{ℕ, zero, suc, _+_, _^_, _≤_, _<_}
 use Prim.Native.String.{String}
 use mathlib.Core.Path.{_≡_}
@@ -64,7 +64,7 @@ abbrev pub formText : Form → Filled
 formText form.Scalar = fill "form=scalar" []
 formText form.Sliced = fill "form=sliced" []
 
--- "Four header lines, n label lines [..] (32 lowercase hex digits each), then operations": a label's word is its high and its low 64 bits
+-- "Four header lines, n label lines [..] (32 lowercase hex digits each), then operations": the 32 digits are two words, the high 64 bits first
 abbrev pub lineText : Line → Filled
 lineText (line.Qubits n) = fill "qubits=#" (n ∷ [])
 lineText (line.Form f) = formText f
@@ -98,8 +98,8 @@ pub record Reads (s : List ℕ) (r : Parsed) : Type 0 where
 
 -- ---- the same as a function: the first of the shapes that hits. proofs/Unique.antt shows that it meets `Reads`, and that `Reads` admits no other.
 
-abbrev pub kindOf : ℕ → Kind
-kindOf k = cond (eqb k 0) kind.X (cond (eqb k 1) kind.Y (cond (eqb k 2) kind.Z kind.P))
+abbrev pub kindNumbered : ℕ → Kind
+kindNumbered k = cond (eqb k 0) kind.X (cond (eqb k 1) kind.Y (cond (eqb k 2) kind.Z kind.P))
 
 -- a shape, and what it makes of the values that were read by it
 pub record Row : Type 0 where
@@ -129,15 +129,15 @@ rows =
     row "gate=cz a=# b=#" (λ f. line.Call (call.Gate (gate.Cz (f .d) (f .e)))) ∷
     row "gate=cy a=# b=#" (λ f. line.Call (call.Gate (gate.Cy (f .d) (f .e)))) ∷
     row "gate=swap a=# b=#" (λ f. line.Call (call.Gate (gate.Swap (f .d) (f .e)))) ∷
-    row "turn=# kind=? a=#" (λ f. line.Call (call.Turn (kindOf (f .d)) (f .c) (f .e))) ∷
-    row "record=? a=# tag=$" (λ f. line.Call (call.Record (kindOf (f .c)) (f .d) (f .e))) ∷
+    row "turn=# kind=? a=#" (λ f. line.Call (call.Turn (kindNumbered (f .d)) (f .c) (f .e))) ∷
+    row "record=? a=# tag=$" (λ f. line.Call (call.Record (kindNumbered (f .c)) (f .d) (f .e))) ∷
     row "measure=#" (λ f. line.Call (call.Measure (f .e))) ∷
     row "reset=#" (λ f. line.Call (call.Reset (f .e))) ∷
     row "ccx=# b=# c=#" (λ f. line.Call (call.Ccx (f .c) (f .d) (f .e))) ∷
     row "ccz=# b=# c=#" (λ f. line.Call (call.Ccz (f .c) (f .d) (f .e))) ∷
     row "kill=#" (λ f. line.Call (call.Kill (f .e))) ∷
     row "clear=all" (λ f. line.Call call.Clear) ∷
-    row "look=? a=#" (λ f. line.Look (kindOf (f .d)) (f .e)) ∷
+    row "look=? a=#" (λ f. line.Look (kindNumbered (f .d)) (f .e)) ∷
     []
 
 abbrev pub rowAt : ℕ → Row
@@ -149,9 +149,9 @@ shapeAt k = bytes (rowAt k .shape)
 abbrev pub lineOf : ℕ → Five → Parsed
 lineOf k = rowAt k .makes
 
--- the values that shape k was read with have a tag, where it has one, of 32 bits
-abbrev pub Tagged : ℕ → Five → Type 0
-Tagged k f = k ≡ 18 → f .e < 2 ^ 32
+-- the values that shape k was read with have a tag, where it has one (the record line, number 18), of 32 bits
+abbrev pub TagFits : ℕ → Five → Type 0
+TagFits k f = k ≡ 18 → f .e < 2 ^ 32
 
 abbrev pub onFit : Fit → (Five → Parsed) → Parsed → Parsed
 onFit (Hit f) g r = g f

@@ -14,7 +14,7 @@ pub data Saying : Type 0 where
   notOpened : (number : ℕ) → Saying
   end : (line : ℕ) → Tally → Saying
 
--- "sign prints as 1 or -1"
+-- "sign prints as 1 or -1": a look has no other (`look-signed` of `model`)
 abbrev pub foundShape : ℤ → String
 foundShape (pos n) = "line=# look=found id=# sign=1 steps=#\n"
 foundShape (negsuc n) = "line=# look=found id=# sign=-1 steps=#\n"

@@ -10,7 +10,7 @@ ghost use Rattle.text.specs.Wrote.{Wrote};
 ghost use Rattle.text.specs.Spoken.{replied, bad, notOpened, end, spoken};
 
 // "A refused operation prints its answer alone."
-fn write_number(line: u64, number: u32, out: &mut [u8]) -> usize
+fn write_refusal(line: u64, number: u32, out: &mut [u8]) -> usize
     ensures { λ r. ⌜ Wrote (now (out .entry)) 0 (spoken (replied line (refused number))) (now (out .exit)) r ⌝ }
 {
     let k = number as u64;
@@ -32,7 +32,7 @@ pub fn write_answer(line: u64, a: Answer, out: &mut [u8]) -> usize
             let v = [line, id];
             write_by(b"line=# answer=0 id=#\n", &v, out)
         }
-        Answer::Refused(number) => write_number(line, number, out),
+        Answer::Refused(number) => write_refusal(line, number, out),
     }
 }
 
@@ -70,7 +70,7 @@ pub fn write_sight(line: u64, s: Sight, out: &mut [u8]) -> usize
             let v = [line, steps];
             write_by(b"line=# look=out steps=#\n", &v, out)
         }
-        Sight::Refused(number) => write_number(line, number, out),
+        Sight::Refused(number) => write_refusal(line, number, out),
     }
 }
 
@@ -83,7 +83,7 @@ pub fn write_bad(line: u64, out: &mut [u8]) -> usize
 }
 
 // "A refused opening [..] prints `open=K`".
-pub fn write_refused(number: u32, out: &mut [u8]) -> usize
+pub fn write_not_opened(number: u32, out: &mut [u8]) -> usize
     ensures { λ r. ⌜ Wrote (now (out .entry)) 0 (spoken (notOpened number)) (now (out .exit)) r ⌝ }
 {
     let k = number as u64;

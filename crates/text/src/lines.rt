@@ -10,7 +10,7 @@ ghost use mathlib.Core.Path.{_≡_};
 ghost use Prim.Native.Nat.{_≤_, _<_};
 ghost use Rattle.partner.specs.declared.calls.Call.the-variants as call;
 ghost use Rattle.text.specs.Fit.{fitted, zeros};
-ghost use Rattle.text.specs.Line.{shapeAt, kindOf, lineOf, Tagged, Reads, readingOf};
+ghost use Rattle.text.specs.Line.{shapeAt, kindNumbered, lineOf, TagFits, Reads, readingOf};
 
 // A line of the input, by value: the four of the header, a label with the high and the low word of X and of Z, a call that writes, or a look.
 pub enum Line {
@@ -39,7 +39,7 @@ pub enum Parsed {
 
 // The kind of a number below 4, as the letter's place gives it.
 fn kind_of(k: u64) -> Kind
-    ensures { λ r. ⌜ r ≡ kindOf k ⌝ }
+    ensures { λ r. ⌜ r ≡ kindNumbered k ⌝ }
 {
     if k == 0 {
         return Kind::X;
@@ -133,7 +133,7 @@ fn gate_of(k: usize, f: Five) -> Gate
 }
 
 fn call_of(k: usize, f: Five) -> Call
-    requires { ⌜ (17 ≤ k) × (k < 25) × Tagged k f ⌝ }
+    requires { ⌜ (17 ≤ k) × (k < 25) × TagFits k f ⌝ }
     ensures { λ r. ⌜ Parsed.Line (Line.Call r) ≡ lineOf k f ⌝ }
 {
     let a = f.c as usize;
@@ -163,7 +163,7 @@ fn call_of(k: usize, f: Five) -> Call
 }
 
 fn made(k: usize, f: Five) -> Line
-    requires { ⌜ (k < 26) × Tagged k f ⌝ }
+    requires { ⌜ (k < 26) × TagFits k f ⌝ }
     ensures { λ r. ⌜ Parsed.Line r ≡ lineOf k f ⌝ }
 {
     if k < 6 {

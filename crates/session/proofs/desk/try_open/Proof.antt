@@ -8,7 +8,7 @@ use Rattle.session.proofs.desk.try_open.Tie as tie
 use Rattle.session.proofs.desk.try_open.Reads as reads
 use Rattle.session.proofs.desk.try_open.Lts as lts
 use Rattle.partner.proofs.calls.open.Reads as open-reads
-use Rattle.text.proofs.answers.write_refused.Reads as write-refused-reads
+use Rattle.text.proofs.answers.write_not_opened.Reads as write-not-opened-reads
 
 -- src/desk.rt:44:15
 mul-end : tie.Need-mul-end
@@ -27,8 +27,8 @@ enum-known-k : tie.Need-enum-known-k
 enum-known-k c = search needs
 
 -- src/desk.rt:46:42
-write-refused-requires : tie.Need-write-refused-requires
-write-refused-requires c κs = search needs
+write-not-opened-requires : tie.Need-write-not-opened-requires
+write-not-opened-requires c κs = search needs
 
 -- src/desk.rt:40:1
 same-length : tie.Need-same-length
@@ -40,7 +40,7 @@ same-length-2 c = search needs
 
 -- src/desk.rt:40:1
 returns : tie.Need-returns
-returns c = refused-opening _ _ _ _ _ _ _ _ _ ((c .before .before .before .before .before .before .before .before .before .before .before .before .before .before .before .pre) .3) ((c .before .before .before .before .before .before .before .before .before .«open») .ensures) _ _ _ ((c .before .before .before .before .before .k) .given .1) ((c .before .before .before .before .before .before .before .before .before .before .before .before .before .before .before .pre) .4) ((c .before .before .write-refused) .ensures)
+returns c = refused-opening _ _ _ _ _ _ _ _ _ ((c .before .before .before .before .before .before .before .before .before .before .before .before .before .before .before .pre) .3) ((c .before .before .before .before .before .before .before .before .before .«open») .ensures) _ _ _ ((c .before .before .before .before .before .k) .given .1) ((c .before .before .before .before .before .before .before .before .before .before .before .before .before .before .before .pre) .4) ((c .before .before .write-not-opened) .ensures)
 
 -- src/desk.rt:40:1
 same-length-3 : tie.Need-same-length-3
@@ -58,7 +58,7 @@ try-open-spec =
     slice-aggregate-open
     open-requires
     enum-known-k
-    write-refused-requires
+    write-not-opened-requires
     same-length
     same-length-2
     returns

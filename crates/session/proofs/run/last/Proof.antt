@@ -26,7 +26,7 @@ same-length c = search needs
 
 -- src/run.rt:173:9
 returns-2 : tie.Need-returns-2
-returns-2 c = last-held _ _ _ _ ((c .before .before .before .before .if2) .taken) ((c .before .before .write-bad) .ensures)
+returns-2 c = last-held _ _ _ _ ((c .before .before .before .before .before .before .if1) .left) ((c .before .before .before .before .if2) .taken) ((c .before .before .write-bad) .ensures)
 
 -- src/run.rt:177:26
 enum-known-stage : tie.Need-enum-known-stage
@@ -50,7 +50,7 @@ same-length-2 c = search needs
 
 -- src/run.rt:165:1
 returns-3 : tie.Need-returns-3
-returns-3 c = last-end _ _ _ _ _ _ ((c .before .before .before .before .before .stage) .given .1) ((c .before .before .before .before .before .before .before .if2) .left) ((c .before .before .write-end) .ensures)
+returns-3 c = last-end _ _ _ _ ((c .before .before .before .before .before .before .before .before .before .if1) .left) _ _ ((c .before .before .before .before .before .stage) .given .1) ((c .before .before .before .before .before .before .before .if2) .left) ((c .before .before .write-end) .ensures)
 
 -- src/run.rt:165:1
 same-length-3 : tie.Need-same-length-3
@@ -58,7 +58,7 @@ same-length-3 c = search needs
 
 -- src/run.rt:165:1
 returns-4 : tie.Need-returns-4
-returns-4 c = last-early ((c .before .before .before .before .before .before .before .before .before .args) .t) _ _ _ ((c .before .before .before .before .match) .keys2) ((c .before .before .before .before .before .if2) .left) ((c .before .before .write-bad2) .ensures)
+returns-4 c = last-early ((c .before .before .before .before .before .before .before .before .before .args) .t) _ _ _ ((c .before .before .before .before .before .before .before .if1) .left) ((c .before .before .before .before .match) .keys2) ((c .before .before .before .before .before .if2) .left) ((c .before .before .write-bad2) .ensures)
 
 pub last-spec : {M : Type 1} → statement M
 last-spec =

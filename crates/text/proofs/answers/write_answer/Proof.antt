@@ -33,8 +33,8 @@ write-by-requires-2 c κs = search needs
 enum-known-a-2 : tie.Need-enum-known-a-2
 enum-known-a-2 c = search needs
 
-write-number-requires : tie.Need-write-number-requires
-write-number-requires c κs = search needs
+write-refusal-requires : tie.Need-write-refusal-requires
+write-refusal-requires c κs = search needs
 
 same-length : tie.Need-same-length
 same-length c = search needs
@@ -55,7 +55,7 @@ same-length-3 c = search needs
 
 returns-3 : tie.Need-returns-3
 unfolding told
-returns-3 c = rw (c .before .before .before .before .before .a2 .given .1) (c .before .before .write-number .ensures)
+returns-3 c = rw (c .before .before .before .before .before .a2 .given .1) (c .before .before .write-refusal .ensures)
 
 pub write-answer-spec : {M : Type 1} → statement M
 write-answer-spec =
@@ -70,7 +70,7 @@ write-answer-spec =
     slice-aggregate-write-by-4
     write-by-requires-2
     enum-known-a-2
-    write-number-requires
+    write-refusal-requires
     same-length
     returns
     same-length-2

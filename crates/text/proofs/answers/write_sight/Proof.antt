@@ -61,8 +61,8 @@ write-by-requires-3 c κs = search needs
 enum-known-s-5 : tie.Need-enum-known-s-5
 enum-known-s-5 c = search needs
 
-write-number-requires : tie.Need-write-number-requires
-write-number-requires c κs = search needs
+write-refusal-requires : tie.Need-write-refusal-requires
+write-refusal-requires c κs = search needs
 
 same-length : tie.Need-same-length
 same-length c = search needs
@@ -96,7 +96,7 @@ same-length-5 c = search needs
 
 returns-5 : tie.Need-returns-5
 unfolding toldLook
-returns-5 c = rw (c .before .before .before .before .before .s5 .given .1) (c .before .before .write-number .ensures)
+returns-5 c = rw (c .before .before .before .before .before .s5 .given .1) (c .before .before .write-refusal .ensures)
 
 pub write-sight-spec : {M : Type 1} → statement M
 write-sight-spec =
@@ -120,7 +120,7 @@ write-sight-spec =
     slice-aggregate-write-by-6
     write-by-requires-3
     enum-known-s-5
-    write-number-requires
+    write-refusal-requires
     same-length
     returns
     same-length-2

@@ -1,9 +1,9 @@
--- `answers::write_refused` meets its contract. Assumes nothing.
+-- `answers::write_refusal` meets its contract. Assumes nothing.
 use borrow.Author.Needs.{needs}
 use Prim.Native.Nat.{_-_}
 use Rattle.text.specs.Spoken.{spoken}
-use Rattle.text.proofs.answers.write_refused.Statement.{statement}
-use Rattle.text.proofs.answers.write_refused.Tie as tie
+use Rattle.text.proofs.answers.write_refusal.Statement.{statement}
+use Rattle.text.proofs.answers.write_refusal.Tie as tie
 
 slice-aggregate-write-by : tie.Need-slice-aggregate-write-by
 slice-aggregate-write-by c = search needs
@@ -21,8 +21,8 @@ returns : tie.Need-returns
 unfolding spoken
 returns c = c .before .before .write-by .ensures
 
-pub write-refused-spec : {M : Type 1} → statement M
-write-refused-spec =
+pub write-refusal-spec : {M : Type 1} → statement M
+write-refusal-spec =
     tie.close
     (tie.spec
     slice-aggregate-write-by

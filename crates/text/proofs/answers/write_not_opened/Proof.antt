@@ -1,9 +1,9 @@
--- `answers::write_number` meets its contract. Assumes nothing.
+-- `answers::write_not_opened` meets its contract. Assumes nothing.
 use borrow.Author.Needs.{needs}
 use Prim.Native.Nat.{_-_}
 use Rattle.text.specs.Spoken.{spoken}
-use Rattle.text.proofs.answers.write_number.Statement.{statement}
-use Rattle.text.proofs.answers.write_number.Tie as tie
+use Rattle.text.proofs.answers.write_not_opened.Statement.{statement}
+use Rattle.text.proofs.answers.write_not_opened.Tie as tie
 
 slice-aggregate-write-by : tie.Need-slice-aggregate-write-by
 slice-aggregate-write-by c = search needs
@@ -21,8 +21,8 @@ returns : tie.Need-returns
 unfolding spoken
 returns c = c .before .before .write-by .ensures
 
-pub write-number-spec : {M : Type 1} → statement M
-write-number-spec =
+pub write-not-opened-spec : {M : Type 1} → statement M
+write-not-opened-spec =
     tie.close
     (tie.spec
     slice-aggregate-write-by
