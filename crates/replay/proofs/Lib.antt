@@ -1,1 +1,2 @@
 -- What the proofs of `replay` rest on.
+pub mod Leading

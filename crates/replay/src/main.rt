@@ -8,6 +8,8 @@ use session::run::start;
 use session::stages::Talk;
 ghost use Prim.Native.Nat.{_+_, _≤_, _<_, _^_};
 ghost use lib.ListN.{length};
+ghost use Rattle.replay.specs.declared.Job.the-variants as jobs;
+ghost use Rattle.replay.specs.Jobs.{Open, Leads};
 
 // A job: none of its bytes is read; it goes on; or its session stopped.
 enum Job {
@@ -44,6 +46,11 @@ fn name(number: u64) {
     io::write_all(1, b"\n");
 }
 
+// Cannot be called: its callers prove that they do not come here.
+fn never()
+    requires { ⌜ ⊥ ⌝ }
+{}
+
 // The next bytes of a job that goes on.
 fn talk(
     t: Talk,
@@ -52,7 +59,10 @@ fn talk(
     labels: &mut [u64],
     store: &mut [u64],
     out: &mut [u8],
-) -> Job {
+) -> Job
+    requires { ⌜ Open (jobs.On t) (now bytes) (now buf) (now labels) (now store) (now out) ⌝ }
+    ensures { λ r. ⌜ Leads (jobs.On t) (now (bytes .entry)) r (now (buf .exit)) (now (labels .exit)) (now (store .exit)) ⌝ }
+{
     match run(t, bytes, buf, labels, store, out) {
         Ran::On(next, said) => {
             io::write_all(1, &out[..said]);
@@ -62,8 +72,11 @@ fn talk(
             io::write_all(1, &out[..said]);
             Job::Over
         }
-        // On slices of other sizes.
-        Ran::Unfit => Job::Over,
+        // Only on slices of other sizes.
+        Ran::Unfit => {
+            never();
+            Job::Over
+        }
     }
 }
 
@@ -75,7 +88,10 @@ fn piece(
     labels: &mut [u64],
     store: &mut [u64],
     out: &mut [u8],
-) -> Job {
+) -> Job
+    requires { ⌜ Open (p .job) (now bytes) (now buf) (now labels) (now store) (now out) ⌝ }
+    ensures { λ r. ⌜ Leads (p .job) (now (bytes .entry)) r (now (buf .exit)) (now (labels .exit)) (now (store .exit)) ⌝ }
+{
     let job = p.job;
     match job {
         Job::New => {
@@ -108,8 +124,8 @@ fn step(
     store: &mut [u64],
     out: &mut [u8],
 ) -> Place
-    requires { ⌜ p .number < 2 ^ 63 ⌝ }
-    ensures { λ r. ⌜ r .number ≤ p .number + 1 ⌝ }
+    requires { ⌜ Open (p .job) (now bytes) (now buf) (now labels) (now store) (now out) × (p .number < 2 ^ 63) ⌝ }
+    ensures { λ r. ⌜ Leads (p .job) (now (bytes .entry)) (r .job) (now (buf .exit)) (now (labels .exit)) (now (store .exit)) × (r .number ≤ p .number + 1) ⌝ }
 {
     let number = p.number;
     let next = piece(p, bytes, buf, labels, store, out);
@@ -135,8 +151,8 @@ fn block(
     store: &mut [u64],
     out: &mut [u8],
 ) -> Place
-    requires { ⌜ from .number + length (now bytes) < 2 ^ 63 ⌝ }
-    ensures { λ r. ⌜ r .number ≤ from .number + length (now (bytes .entry)) + 1 ⌝ }
+    requires { ⌜ Open (from .job) (now bytes) (now buf) (now labels) (now store) (now out) × (from .number + length (now bytes) < 2 ^ 63) ⌝ }
+    ensures { λ r. ⌜ Leads (from .job) (now (bytes .entry)) (r .job) (now (buf .exit)) (now (labels .exit)) (now (store .exit)) × (r .number ≤ from .number + length (now (bytes .entry)) + 1) ⌝ }
 {
     let mut p = from;
     let mut i: usize = 0;

@@ -1,13 +1,15 @@
--- `replay::block` meets its contract. Each turn is at most one more job. Assumes nothing.
-use borrow.Author.Needs.{needs}
+-- `replay::block` meets its contract. Each turn is at most one more job, and at most one more line for each of its bytes. Assumes nothing.
+use Rattle.replay.proofs.Leading.{part-opens, part-leads}
 use lib.ListN.{length}
 use mathlib.Core.Path.{_≡_}
 use Prim.Native.Nat.{_+_, _-_, _≤_}
+use Rattle.replay.specs.Jobs.{linesOf, Leads}
+use borrow.Author.Needs.{needs}
 use Rattle.replay.proofs.block.Statement.{statement}
 use Rattle.replay.proofs.block.Tie as tie
 
 abbrev Inv-loop : tie.InvT-loop
-Inv-loop bytes buf₀ labels₀ store₀ out₀ p₀ i₀ buf labels store out p i = (length buf ≡ length buf₀) × (length labels ≡ length labels₀) × (length store ≡ length store₀) × (length out ≡ length out₀) × (p .number ≤ p₀ .number + i) × (i ≤ length bytes + 1)
+Inv-loop bytes buf₀ labels₀ store₀ out₀ p₀ i₀ buf labels store out p i = (length buf ≡ length buf₀) × (length labels ≡ length labels₀) × (length store ≡ length store₀) × (length out ≡ length out₀) × (p .number ≤ p₀ .number + i) × (i ≤ length bytes + 1) × Leads (p₀ .job) bytes (p .job) buf labels store × (linesOf (p .job) ≤ linesOf (p₀ .job) + i)
 
 abbrev μ-loop : tie.MeasureT-loop
 μ-loop bytes buf₀ labels₀ store₀ out₀ p₀ i₀ buf labels store out p i = length bytes + 1 - i
@@ -28,7 +30,7 @@ part-step-end : tie.Need-part-step-end Inv-loop μ-loop
 part-step-end c = search needs
 
 step-requires : tie.Need-step-requires Inv-loop μ-loop
-step-requires c κs = search needs
+step-requires c κs = (part-opens _ _ _ _ _ _ ((c .before .before .before .before .before .before .before .before .before .before .before .before .before .pre) .0) _ _ _ _ _ ((c .before .before .before .before .before .before .before .loop) .inv .6) _ _ ((c .before .before .before .before .before .before .before .loop) .inv .7) ((c .before .before .before .before .before .until) .ensures .0) ((c .before .before .before .before .before .until) .ensures .1) ((c .before .before .before .before .before .before .before .loop) .inv .3), search needs)
 
 add-i : tie.Need-add-i Inv-loop μ-loop
 add-i c = search needs
@@ -37,7 +39,7 @@ loop-less : tie.Need-loop-less Inv-loop μ-loop
 loop-less c = search needs
 
 loop-again : tie.Need-loop-again Inv-loop μ-loop
-loop-again c = search needs
+loop-again c = let k = part-leads _ _ _ _ _ _ ((c .before .before .before .before .before .before .before .before .before .before .before .before .before .before .before .before .before .before .before .before .before .before .pre) .0) _ _ _ _ ((c .before .before .before .before .before .before .before .before .before .before .before .before .before .before .before .before .loop) .out) ((c .before .before .before .before .before .before .before .before .before .before .before .before .before .before .before .before .loop) .inv .6) _ _ ((c .before .before .before .before .before .before .before .before .before .before .before .before .before .before .before .before .loop) .inv .7) ((c .before .before .before .before .before .before .before .before .before .before .before .before .before .before .until) .ensures .0) ((c .before .before .before .before .before .before .before .before .before .before .before .before .before .before .until) .ensures .1) _ _ _ _ ((c .before .before .before .before .before .before .before .before .step) .ensures .0) in (search needs, search needs, search needs, search needs, search needs, search needs, k .0, k .1)
 
 same-length : tie.Need-same-length Inv-loop μ-loop
 same-length c = search needs

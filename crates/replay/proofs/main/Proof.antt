@@ -1,13 +1,15 @@
--- `replay::main` is safe and ends. Assumes nothing.
-use borrow.Author.Needs.{needs}
+-- `replay::main` is safe and ends, and every block finds its job open. Assumes nothing.
 use lib.ListN.{length}
 use mathlib.Core.Path.{_≡_}
 use Prim.Native.Nat.{_+_, _*_, _^_, _≤_}
+use Rattle.replay.specs.Jobs.{linesOf, Ready}
+use borrow.Author.Needs.{needs}
+use native.Mathlib.Omega.{arith}
 use Rattle.replay.proofs.main.Statement.{statement}
 use Rattle.replay.proofs.main.Tie as tie
 
 abbrev Inv-loop : tie.InvT-loop
-Inv-loop p₀ buf₀ labels₀ store₀ out₀ turns₀ p buf labels store out turns = (length buf ≡ 80) × (length labels ≡ 128) × (length store ≡ 4449) × (length out ≡ 65536) × (p .number + turns * 1024 ≤ 2 ^ 52)
+Inv-loop p₀ buf₀ labels₀ store₀ out₀ turns₀ p buf labels store out turns = Ready (p .job) buf labels store × (length out ≡ 65536) × (linesOf (p .job) + turns * 512 ≤ 2 ^ 52) × (p .number + turns * 1024 ≤ 2 ^ 52)
 
 abbrev μ-loop : tie.MeasureT-loop
 μ-loop p₀ buf₀ labels₀ store₀ out₀ turns₀ p buf labels store out turns = turns
@@ -46,7 +48,7 @@ slice-aggregate-block-5 : tie.Need-slice-aggregate-block-5 Inv-loop μ-loop
 slice-aggregate-block-5 c = search needs
 
 block-requires : tie.Need-block-requires Inv-loop μ-loop
-block-requires c κs = search needs
+block-requires c κs = (record { ready = (c .before .before .before .before .before .before .before .before .before .before .before .before .loop) .inv .0; said = omega (arith, (c .before .before .before .before .before .before .before .before .before .before .before .before .loop) .inv .1, (c .before .before .before .before .before .count) .ensures); lines = omega (arith, (c .before .before .before .before .before .before .before .before .before .before .before .before .loop) .inv .2, (c .before .before .before .before .before .before .before .before .before .before .before .loop-test) .taken, (c .before .before .before .before .before .count) .ensures) }, search needs)
 
 sub-turns : tie.Need-sub-turns Inv-loop μ-loop
 sub-turns c = search needs

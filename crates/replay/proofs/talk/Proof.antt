@@ -1,4 +1,5 @@
--- `replay::talk` is safe and ends: the bytes said are inside `out` (`Runs`). Assumes nothing.
+-- `replay::talk` meets its contract: `run` never finds the slices of an open job unfit. The bytes said are inside `out` (`Runs`). Assumes nothing.
+use Rattle.replay.proofs.Leading.{talk-fits, talk-on}
 use Rattle.session.specs.declared.run.Ran.{Ran}
 use Rattle.session.specs.Desk.{InsideRan}
 use mathlib.Core.Path.{subst}
@@ -13,10 +14,10 @@ enum-known-next : tie.Need-enum-known-next
 enum-known-next c = search needs
 
 slice-reshare-prefix-write-all : tie.Need-slice-reshare-prefix-write-all
-slice-reshare-prefix-write-all c = subst (λ (r : Ran). InsideRan r (c .before .before .before .before .before .before .before .before .before .before .before .run .last .1 .1 .1 .1 .1 .0)) (c .before .next .given .1) (c .before .before .before .before .before .before .before .before .before .before .before .run .ensures .inside) .within
+slice-reshare-prefix-write-all c = subst (λ (r : Ran). InsideRan r ((c .before .before .before .before .before .before .before .before .before .before .before .run) .last .1 .1 .1 .1 .1 .0)) ((c .before .next) .given .1) ((c .before .before .before .before .before .before .before .before .before .before .before .run) .ensures .inside) .within
 
 slice-aggregate-write-all : tie.Need-slice-aggregate-write-all
-slice-aggregate-write-all c = subst (λ (r : Ran). InsideRan r (c .before .before .before .before .before .before .before .before .before .before .before .before .run .last .1 .1 .1 .1 .1 .0)) (c .before .before .next .given .1) (c .before .before .before .before .before .before .before .before .before .before .before .before .run .ensures .inside) .counts
+slice-aggregate-write-all c = subst (λ (r : Ran). InsideRan r ((c .before .before .before .before .before .before .before .before .before .before .before .before .run) .last .1 .1 .1 .1 .1 .0)) ((c .before .before .next) .given .1) ((c .before .before .before .before .before .before .before .before .before .before .before .before .run) .ensures .inside) .counts
 
 write-all-requires : tie.Need-write-all-requires
 write-all-requires c κs = search needs
@@ -25,16 +26,19 @@ enum-known-said : tie.Need-enum-known-said
 enum-known-said c = search needs
 
 slice-reshare-prefix-write-all-2 : tie.Need-slice-reshare-prefix-write-all-2
-slice-reshare-prefix-write-all-2 c = subst (λ (r : Ran). InsideRan r (c .before .before .before .before .before .before .before .before .before .before .before .run .last .1 .1 .1 .1 .1 .0)) (c .before .said .given .1) (c .before .before .before .before .before .before .before .before .before .before .before .run .ensures .inside) .within
+slice-reshare-prefix-write-all-2 c = subst (λ (r : Ran). InsideRan r ((c .before .before .before .before .before .before .before .before .before .before .before .run) .last .1 .1 .1 .1 .1 .0)) ((c .before .said) .given .1) ((c .before .before .before .before .before .before .before .before .before .before .before .run) .ensures .inside) .within
 
 slice-aggregate-write-all-2 : tie.Need-slice-aggregate-write-all-2
-slice-aggregate-write-all-2 c = subst (λ (r : Ran). InsideRan r (c .before .before .before .before .before .before .before .before .before .before .before .before .run .last .1 .1 .1 .1 .1 .0)) (c .before .before .said .given .1) (c .before .before .before .before .before .before .before .before .before .before .before .before .run .ensures .inside) .counts
+slice-aggregate-write-all-2 c = subst (λ (r : Ran). InsideRan r ((c .before .before .before .before .before .before .before .before .before .before .before .before .run) .last .1 .1 .1 .1 .1 .0)) ((c .before .before .said) .given .1) ((c .before .before .before .before .before .before .before .before .before .before .before .before .run) .ensures .inside) .counts
 
 write-all-requires-2 : tie.Need-write-all-requires-2
 write-all-requires-2 c κs = search needs
 
 enum-told : tie.Need-enum-told
 enum-told c = search needs
+
+never-requires : tie.Need-never-requires
+never-requires c κs = talk-fits _ _ _ _ _ _ (c .before .before .before .before .before .before .before .before .before .before .before .before .before .before .before .before .before .before .before .before .pre) _ _ _ _ _ ((c .before .before .before .before .before .before .before .before .before .before .run) .ensures) ((c .enum-told) .given .1)
 
 same-length : tie.Need-same-length
 same-length c = search needs
@@ -49,7 +53,7 @@ same-length-4 : tie.Need-same-length-4
 same-length-4 c = search needs
 
 returns : tie.Need-returns
-returns c = search needs
+returns c = talk-on _ _ _ _ _ _ (c .before .before .before .before .before .before .before .before .before .before .before .before .before .before .before .before .before .before .before .before .before .before .before .pre) _ _ _ _ _ ((c .before .before .before .before .before .before .before .before .before .before .before .before .before .run) .ensures) _ _ ((c .before .before .before .next) .given .1)
 
 same-length-5 : tie.Need-same-length-5
 same-length-5 c = search needs
@@ -95,6 +99,7 @@ talk-spec =
     slice-aggregate-write-all-2
     write-all-requires-2
     enum-told
+    never-requires
     same-length
     same-length-2
     same-length-3
