@@ -10,11 +10,11 @@ use types.Run.{OneOf, miss}
 use denote.Enum.Declared.{tagOf}
 use lib.Dec.{eqb, ltb}
 use lib.ListN.{length, take}
-use Rattle.model.specs.Events.{State, Opening, recordAll, record1, kill, clear}
+use Rattle.model.specs.Events.{State, Opening, record1, kill, clear}
 use Rattle.model.specs.Calls as model
 use Rattle.model.specs.Calls.{Reply, refused, accepted, openAnswer, opened, opening, answerTo, reply, reframed, effect, call, tally}
 use Rattle.model.proofs.Theorems.{look-changes-nothing}
-use Rattle.model.specs.Events.{Event, keep}
+use Rattle.model.specs.Events.{keep}
 use Rattle.model.specs.Demands.{living}
 use Rattle.model.proofs.Enough.{tally-live}
 use Rattle.model.proofs.Members.{length-keep}
