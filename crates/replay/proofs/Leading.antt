@@ -3,8 +3,8 @@ use Prim.Native.Nat.{ℕ, _+_, _-_, _≤_}
 use mathlib.Core.Path.{_≡_, sym, subst}
 use mathlib.Core.List.{List}
 use native.Mathlib.Omega.{arith}
-use lib.ListN.{length, take, drop, length-drop}
-use lib.Seq.{length-take-le}
+use lib.ListN.{length, take, drop}
+use Rattle.store.proofs.Splice.{part-length}
 use Rattle.session.specs.Desk.{Sized, Fits, Runs, Begins}
 use Rattle.session.specs.declared.stages.Talk.{Talk}
 use Rattle.session.specs.declared.run.Ran.{Ran}
@@ -54,12 +54,12 @@ module _ (bytes : List ℕ) (r : Job) (buf ls store : List ℕ) where
 -- a part of the bytes, behind i of them
 module _ (from : Job) (bytes buf₀ ls₀ store₀ out₀ : List ℕ) (o : Open from bytes buf₀ ls₀ store₀ out₀) (j : Job) (buf ls store out : List ℕ)
     (before : Leads from bytes j buf ls store) (i e : ℕ) (lines : linesOf j ≤ linesOf from + i) (le : i ≤ e) (there : e ≤ length bytes) where
-  part-length : length (take (e - i) (drop i bytes)) ≡ e - i
-  part-length = length-take-le (e - i) (drop i bytes) (let d : length (drop i bytes) ≡ length bytes - i = length-drop i bytes in omega arith)
+  long : length (take (e - i) (drop i bytes)) ≡ e - i
+  long = part-length i (e - i) bytes (omega arith)
 
   pub part-opens : length out ≡ length out₀ → Open j (take (e - i) (drop i bytes)) buf ls store out
-  part-opens same = let k = part-length in record { ready = before .ready; said = omega (arith, k, o .said); lines = omega (arith, k, o .lines) }
+  part-opens same = let k = long in record { ready = before .ready; said = omega (arith, k, o .said); lines = omega (arith, k, o .lines) }
 
   pub part-leads : (r : Job) (buf′ ls′ store′ : List ℕ) → Leads j (take (e - i) (drop i bytes)) r buf′ ls′ store′
       → Leads from bytes r buf′ ls′ store′ × (linesOf r ≤ linesOf from + (e + 1))
-  part-leads r buf′ ls′ store′ h = let k = part-length in (record { ready = h .ready; lines = omega (arith, k, h .lines) }, omega (arith, k, h .lines))
+  part-leads r buf′ ls′ store′ h = let k = long in (record { ready = h .ready; lines = omega (arith, k, h .lines) }, omega (arith, k, h .lines))

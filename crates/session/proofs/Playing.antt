@@ -8,9 +8,9 @@ use native.Mathlib.Numerals.{add-one}
 use borrow.Author.Tests.{eq-eqb, ne-eqb}
 use types.Run.{miss}
 use lib.Dec.{eqb}
-use lib.ListN.{length, take, drop, getD, length-append, length-drop, drop-of-length-le}
+use lib.ListN.{length, take, drop, getD, length-drop, drop-of-length-le}
 use lib.Seq.{length-take-le, take-all, take-append-add, drop-append-add, drop-cons, drop-drop}
-use Rattle.store.proofs.Splice.{splice}
+use Rattle.store.proofs.Splice.{splice, part-length, splice-length}
 use Rattle.model.specs.Events.{State}
 use Rattle.text.specs.Spoken.{Saying, bad, end, spoken}
 use Rattle.text.specs.Wrote.{Wrote}
@@ -66,7 +66,8 @@ module _ (at : ℕ) (out ys : List ℕ) (there : at ≤ length out) (long : leng
   front = length-take-le at out there
 
   pub back-length : length back ≡ length out
-  back-length = ap length back-is ∙ length-append (take at out) ys ∙ omega (arith, front, long, ap length part-is, behind)
+  back-length =
+      splice-length at (length out - at) out (omega (arith, there)) ys (long ∙ part-length at (length out - at) out (omega (arith, there)))
 
   pub back-said : (n : ℕ) → take (at + n) back ≡ take at out ++ take n ys
   back-said n = ap (take (at + n)) back-is ∙ ap (λ (k : ℕ). take (k + n) (take at out ++ ys)) (sym front) ∙ take-append-add (take at out) ys n

@@ -3,11 +3,11 @@ use Prim.Native.Nat.{ℕ, _+_, _-_, _*_, _/_, _^_, _≤_, _<_}
 use mathlib.Core.Path.{_≡_, refl, sym, ap, _∙_, subst}
 use mathlib.Core.List.{List, [], _++_}
 use native.Mathlib.Omega.{arith}
-use lib.ListN.{length, take, drop, length-drop}
+use lib.ListN.{length, take, drop}
 use lib.Seq.{length-take-le, drop-drop}
 use Rattle.model.specs.Events.{State, scalar}
 use Rattle.model.specs.Calls.{opened, opening}
-use Rattle.store.proofs.Splice.{splice}
+use Rattle.store.proofs.Splice.{splice, part-length}
 use Rattle.text.specs.Spoken.{spoken}
 use Rattle.text.proofs.Room.{spoken-whole}
 use Rattle.session.specs.Session.{room, Place, start, ran, whole, output}
@@ -80,7 +80,7 @@ module _ (input out : List ℕ) (few : length input < length out / 128) (t : Tal
 
     pub part-wide : 128 ≤ length (take (length out₁ - n) (drop n out₁))
     part-wide =
-        let a : length (take (length out₁ - n) (drop n out₁)) ≡ length out₁ - n = length-take-le (length out₁ - n) (drop n out₁) (omega (arith, length-drop n out₁)) in
+        let a : length (take (length out₁ - n) (drop n out₁)) ≡ length out₁ - n = part-length n (length out₁ - n) out₁ (omega (arith, said-inside)) in
         omega (arith, a, few-is (runs.On u n) e, wide, same)
 
     module _ (k : ℕ) (ys : List ℕ) (long : length ys ≡ length (take (length out₁ - n) (drop n out₁))) (lasts : Lasts u (take (length out₁ - n) (drop n out₁)) k ys) where
@@ -92,7 +92,7 @@ module _ (input out : List ℕ) (few : length input < length out / 128) (t : Tal
       serve-end small =
           let z = spoken-whole (take (length out₁ - n) (drop n out₁)) (lastOf u) ys k (lasts .near (near small)) part-wide in
           let back : length (splice n (length out₁ - n) out₁ ys) ≡ length out₁ = back-length n out₁ ys said-inside long in
-          let a : length (take (length out₁ - n) (drop n out₁)) ≡ length out₁ - n = length-take-le (length out₁ - n) (drop n out₁) (omega (arith, length-drop n out₁)) in
+          let a : length (take (length out₁ - n) (drop n out₁)) ≡ length out₁ - n = part-length n (length out₁ - n) out₁ (omega (arith, said-inside)) in
           let inside : n + k ≤ length (splice n (length out₁ - n) out₁ ys) = omega (arith, back, z .within, a, said-inside) in
           let d = ran-is (runs.On u n) e in
           let held : u .held ≤ length buf′ = omega (arith, ends-is (runs.On u n) e .0 .held, ends-is (runs.On u n) e .0 .line-room) in

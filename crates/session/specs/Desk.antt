@@ -237,7 +237,7 @@ InsideRan (runs.On t n) out = Inside n out
 InsideRan (runs.Stop n) out = Inside n out
 InsideRan runs.Unfit out = Unit {0}
 
--- the promise of `run`, on any slices: on those that do not fit nothing is done
+-- The promise of `run`, on any slices: on those that do not fit nothing is done. `inside` follows, as it does in `Lasts`.
 pub record Runs (t : Talk) (input buf ls store out : List ℕ) (r : Ran) (buf′ ls′ store′ out′ : List ℕ) : Type 0 where
   pub inside : InsideRan r out′
   pub fit : Fits t input buf ls store out → Plays t input buf ls store out r buf′ ls′ store′ out′
@@ -255,7 +255,7 @@ closing line (at.Running e l) = end line (record { events = e; live = l })
 unfoldable pub lastOf : Talk → Saying
 lastOf t = cond (eqb (t .held) 0) (closing (t .line) (t .stage)) (bad (t .line + 1))
 
--- the promise of `last`; past 2^62 lines, which `run` does not reach, nothing is written
+-- The promise of `last`, on any talk. Past 2^62 lines, where `run` says `Unfit`, nothing is written. `inside` follows, and is what a caller needs of `&out[..n]`.
 pub record Lasts (t : Talk) (out : List ℕ) (n : ℕ) (out′ : List ℕ) : Type 0 where
   pub inside : Inside n out′
   pub near : t .line ≤ 2 ^ 62 → Wrote out 0 (spoken (lastOf t)) out′ n
