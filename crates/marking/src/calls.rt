@@ -45,8 +45,20 @@ fn narrow(s: &mut [u64], z: Sizes, mark: Mark) -> bool
     ensures { λ r. ⌜ Records (eventsOf mark) (now (s .entry)) r (now (s .exit)) ⌝ }
 {
     let words = 2 * z.l + 1;
+    let form = z.form;
     let mut out = [0u64; 7];
-    marked(s, z, mark, &mut out[..words])
+    marked(
+        s,
+        z.n,
+        z.l,
+        form,
+        z.cap,
+        z.allowance,
+        z.at,
+        z.end,
+        mark,
+        &mut out[..words],
+    )
 }
 
 // The same with a row of any number of qubits.
@@ -55,8 +67,20 @@ fn wide(s: &mut [u64], z: Sizes, mark: Mark) -> bool
     ensures { λ r. ⌜ Records (eventsOf mark) (now (s .entry)) r (now (s .exit)) ⌝ }
 {
     let words = 2 * z.l + 1;
+    let form = z.form;
     let mut out = [0u64; 725];
-    marked(s, z, mark, &mut out[..words])
+    marked(
+        s,
+        z.n,
+        z.l,
+        form,
+        z.cap,
+        z.allowance,
+        z.at,
+        z.end,
+        mark,
+        &mut out[..words],
+    )
 }
 
 // The same with the shorter row where it is long enough.

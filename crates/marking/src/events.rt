@@ -7,6 +7,7 @@ use frame::axes::Kind;
 use frame::axes::label;
 use frame::axes::row_sign;
 use history::events::Body;
+use history::forms::Form;
 use history::record::Kept;
 use pauli::rows::Signum;
 use store::header::Sizes;
@@ -16,7 +17,7 @@ ghost use Prim.Native.Nat.{_+_, _*_, _<_};
 ghost use lib.ListN.{length};
 ghost use Rattle.history.specs.Recordings.{SignedBody};
 ghost use Rattle.store.specs.Promises.{qubitNumber};
-ghost use Rattle.store.specs.Checks.{Fit};
+ghost use Rattle.store.specs.Checks.{Fit, sizes};
 ghost use Rattle.marking.specs.Marks.{qubitsOf, eventsOf, rotationAbout, blockerAt, productAt, products, Puts, Records};
 
 pub enum Mark {
@@ -28,15 +29,23 @@ pub enum Mark {
 }
 
 // Records an event whose axis are the words of `row` behind its phase.
-fn put(s: &mut [u64], z: Sizes, row: &[u64], body: Body) -> bool
-    requires { ⌜ Fit z (now s) × (length (now row) ≡ 2 * z .l + 1) × SignedBody body ⌝ }
-    ensures fit { λ r. ⌜ Fit z (now (s .exit)) ⌝ }
+fn put(
+    s: &mut [u64],
+    n: usize,
+    l: usize,
+    form: Form,
+    cap: usize,
+    allowance: u32,
+    at: usize,
+    end: usize,
+    row: &[u64],
+    body: Body,
+) -> bool
+    requires { ⌜ Fit (sizes n l form cap allowance at end) (now s) × (length (now row) ≡ 2 * l + 1) × SignedBody body ⌝ }
+    ensures fit { λ r. ⌜ Fit (sizes n l form cap allowance at end) (now (s .exit)) ⌝ }
     ensures done { λ r. ⌜ Puts (now (row .entry)) body (now (s .entry)) r (now (s .exit)) ⌝ }
 {
-    let form = z.form;
-    let at = z.at;
-    let end = z.end;
-    match history::record::record(&mut s[at..end], form, z.n, z.l, z.cap, &row[1..], body) {
+    match history::record::record(&mut s[at..end], form, n, l, cap, &row[1..], body) {
         Kept::As(_) => true,
         Kept::Bad => false,
     }
@@ -49,6 +58,7 @@ fn rotate(s: &mut [u64], z: Sizes, kind: Kind, q: usize, tag: u32, out: &mut [u6
     ensures done { λ r. ⌜ Records (rotationAbout kind q tag) (now (s .entry)) r (now (s .exit)) ⌝ }
 {
     let end = z.at;
+    let form = z.form;
     let tagged = label(&s[14..end], z.n, z.l, kind, q);
     if !axis_into(&s[14..end], z.n, z.l, kind, q, out) {
         return false;
@@ -57,7 +67,13 @@ fn rotate(s: &mut [u64], z: Sizes, kind: Kind, q: usize, tag: u32, out: &mut [u6
         Signum::No => false,
         Signum::Is(g) => put(
             s,
-            z,
+            z.n,
+            z.l,
+            form,
+            z.cap,
+            z.allowance,
+            z.at,
+            z.end,
             out,
             Body::Rotation {
                 tag: tag,
@@ -76,8 +92,20 @@ fn block(s: &mut [u64], z: Sizes, of_x: bool, q: usize, out: &mut [u64]) -> bool
     ensures done { λ r. ⌜ Records (blockerAt «of_x» q) (now (s .entry)) r (now (s .exit)) ⌝ }
 {
     let end = z.at;
+    let form = z.form;
     row_into(&s[14..end], z.n, z.l, of_x, q, out);
-    put(s, z, out, Body::Blocker)
+    put(
+        s,
+        z.n,
+        z.l,
+        form,
+        z.cap,
+        z.allowance,
+        z.at,
+        z.end,
+        out,
+        Body::Blocker,
+    )
 }
 
 // Records product i of z[a], z[b] and the target row, x[t] or z[t], as a blocker.
@@ -96,8 +124,20 @@ fn block_product(
     ensures done { λ r. ⌜ Records (productAt «of_x» a b t i) (now (s .entry)) r (now (s .exit)) ⌝ }
 {
     let end = z.at;
+    let form = z.form;
     product_into(&s[14..end], z.n, z.l, of_x, a, b, t, i, out);
-    put(s, z, out, Body::Blocker)
+    put(
+        s,
+        z.n,
+        z.l,
+        form,
+        z.cap,
+        z.allowance,
+        z.at,
+        z.end,
+        out,
+        Body::Blocker,
+    )
 }
 
 // Records the seven products.
@@ -137,10 +177,30 @@ fn block_both(s: &mut [u64], z: Sizes, q: usize, out: &mut [u64]) -> bool
 }
 
 // Records all events of a mark.
-pub fn marked(s: &mut [u64], z: Sizes, mark: Mark, out: &mut [u64]) -> bool
-    requires { ⌜ Fit z (now s) × (length (now out) ≡ 2 * z .l + 1) × (qubitNumber (z .n) (qubitsOf mark) ≡ 0) ⌝ }
+pub fn marked(
+    s: &mut [u64],
+    n: usize,
+    l: usize,
+    form: Form,
+    cap: usize,
+    allowance: u32,
+    at: usize,
+    end: usize,
+    mark: Mark,
+    out: &mut [u64],
+) -> bool
+    requires { ⌜ Fit (sizes n l form cap allowance at end) (now s) × (length (now out) ≡ 2 * l + 1) × (qubitNumber n (qubitsOf mark) ≡ 0) ⌝ }
     ensures { λ r. ⌜ Records (eventsOf mark) (now (s .entry)) r (now (s .exit)) ⌝ }
 {
+    let z = Sizes {
+        n: n,
+        l: l,
+        form: form,
+        cap: cap,
+        allowance: allowance,
+        at: at,
+        end: end,
+    };
     match mark {
         Mark::Rotation { kind, q, tag } => rotate(s, z, kind, q, tag, out),
         Mark::Measure(q) => block(s, z, false, q, out),

@@ -5,6 +5,7 @@ use frame::axes::axis_row;
 use frame::axes::label;
 use frame::axes::row_sign;
 use frame::axes::y_product;
+use history::forms::Form;
 use history::looks::Seen;
 use pauli::rows::Signum;
 use store::answers::Sight;
@@ -21,7 +22,7 @@ ghost use Rattle.model.specs.Calls.{looked, callLook};
 ghost use Rattle.frame.specs.Places.{IsRow};
 ghost use Rattle.frame.specs.Axes.{kindOf};
 ghost use Rattle.store.specs.Stores.{Held};
-ghost use Rattle.store.specs.Checks.{Fit};
+ghost use Rattle.store.specs.Checks.{Fit, sizes};
 ghost use Rattle.store.specs.Promises.{number, toldLook, Answers};
 ghost use Rattle.seeking.specs.Sights.{sightOf};
 
@@ -43,43 +44,62 @@ fn sight(seen: Seen) -> Sight
 }
 
 // The look for the axis of a kind, which is the row given, phase first.
-fn sought(s: &[u64], z: Sizes, kind: Kind, q: usize, row: &[u64]) -> Sight
-    requires { ⌜ Fit z (now s) × (q < z .n) × (length (now row) ≡ 2 * z .l + 1) ⌝ }
+fn sought(
+    s: &[u64],
+    n: usize,
+    l: usize,
+    form: Form,
+    cap: usize,
+    allowance: u32,
+    at: usize,
+    end: usize,
+    kind: Kind,
+    q: usize,
+    row: &[u64],
+) -> Sight
+    requires { ⌜ Fit (sizes n l form cap allowance at end) (now s) × (q < n) × (length (now row) ≡ 2 * l + 1) ⌝ }
     ensures few { λ r. ⌜ number (toldLook r) ≤ 9 ⌝ }
-    ensures says { λ r. ⌜ ((m : State) → Held m (now (s .entry)) → IsRow (z .l) (now (row .entry)) 0 (axis paulis (kindOf kind) q (m .frame)) → toldLook r ≡ looked (look (kindOf kind) q m)) ⌝ }
+    ensures says { λ r. ⌜ ((m : State) → Held m (now (s .entry)) → IsRow l (now (row .entry)) 0 (axis paulis (kindOf kind) q (m .frame)) → toldLook r ≡ looked (look (kindOf kind) q m)) ⌝ }
 {
     match row_sign(row) {
         Signum::No => Sight::Refused(9),
         Signum::Is(sign) => {
-            let at = z.at;
-            let end = z.end;
-            let form = z.form;
-            let tag = label(&s[14..at], z.n, z.l, kind, q);
+            let tag = label(&s[14..at], n, l, kind, q);
             sight(history::looks::look(
                 &s[at..end],
                 form,
-                z.n,
-                z.l,
-                z.cap,
+                n,
+                l,
+                cap,
                 &row[1..],
                 sign,
                 tag.high,
                 tag.low,
-                z.allowance,
+                allowance,
             ))
         }
     }
 }
 
 // The look for the axis y, whose row is written to `out`.
-fn sought_y(s: &[u64], z: Sizes, q: usize, out: &mut [u64]) -> Sight
-    requires { ⌜ Fit z (now s) × (q < z .n) × (length (now out) ≡ 2 * z .l + 1) ⌝ }
+fn sought_y(
+    s: &[u64],
+    n: usize,
+    l: usize,
+    form: Form,
+    cap: usize,
+    allowance: u32,
+    at: usize,
+    end: usize,
+    q: usize,
+    out: &mut [u64],
+) -> Sight
+    requires { ⌜ Fit (sizes n l form cap allowance at end) (now s) × (q < n) × (length (now out) ≡ 2 * l + 1) ⌝ }
     ensures few { λ r. ⌜ number (toldLook r) ≤ 9 ⌝ }
     ensures says { λ r. ⌜ ((m : State) → Held m (now (s .entry)) → toldLook r ≡ looked (look kindY q m)) ⌝ }
 {
-    let at = z.at;
-    if y_product(&s[14..at], z.n, z.l, q, out) {
-        return sought(s, z, Kind::Y, q, out);
+    if y_product(&s[14..at], n, l, q, out) {
+        return sought(s, n, l, form, cap, allowance, at, end, Kind::Y, q, out);
     }
     Sight::Refused(9)
 }
@@ -91,8 +111,20 @@ fn narrow_y(s: &[u64], z: Sizes, q: usize) -> Sight
     ensures says { λ r. ⌜ ((m : State) → Held m (now (s .entry)) → toldLook r ≡ looked (look kindY q m)) ⌝ }
 {
     let mut out = [0u64; 7];
+    let form = z.form;
     let words = 2 * z.l + 1;
-    sought_y(s, z, q, &mut out[..words])
+    sought_y(
+        s,
+        z.n,
+        z.l,
+        form,
+        z.cap,
+        z.allowance,
+        z.at,
+        z.end,
+        q,
+        &mut out[..words],
+    )
 }
 
 fn wide_y(s: &[u64], z: Sizes, q: usize) -> Sight
@@ -101,8 +133,20 @@ fn wide_y(s: &[u64], z: Sizes, q: usize) -> Sight
     ensures says { λ r. ⌜ ((m : State) → Held m (now (s .entry)) → toldLook r ≡ looked (look kindY q m)) ⌝ }
 {
     let mut out = [0u64; 725];
+    let form = z.form;
     let words = 2 * z.l + 1;
-    sought_y(s, z, q, &mut out[..words])
+    sought_y(
+        s,
+        z.n,
+        z.l,
+        form,
+        z.cap,
+        z.allowance,
+        z.at,
+        z.end,
+        q,
+        &mut out[..words],
+    )
 }
 
 // The look, by its kind.
@@ -112,16 +156,53 @@ fn sought_kind(s: &[u64], z: Sizes, kind: Kind, q: usize) -> Sight
     ensures says { λ r. ⌜ ((m : State) → Held m (now (s .entry)) → toldLook r ≡ looked (look (kindOf kind) q m)) ⌝ }
 {
     let at = z.at;
+    let form = z.form;
     match kind {
-        Kind::X => sought(s, z, kind, q, axis_row(&s[14..at], z.n, z.l, true, q)),
+        Kind::X => sought(
+            s,
+            z.n,
+            z.l,
+            form,
+            z.cap,
+            z.allowance,
+            z.at,
+            z.end,
+            kind,
+            q,
+            axis_row(&s[14..at], z.n, z.l, true, q),
+        ),
         Kind::Y => {
             if z.l <= 3 {
                 return narrow_y(s, z, q);
             }
             wide_y(s, z, q)
         }
-        Kind::Z => sought(s, z, kind, q, axis_row(&s[14..at], z.n, z.l, false, q)),
-        Kind::P => sought(s, z, kind, q, axis_row(&s[14..at], z.n, z.l, false, q)),
+        Kind::Z => sought(
+            s,
+            z.n,
+            z.l,
+            form,
+            z.cap,
+            z.allowance,
+            z.at,
+            z.end,
+            kind,
+            q,
+            axis_row(&s[14..at], z.n, z.l, false, q),
+        ),
+        Kind::P => sought(
+            s,
+            z.n,
+            z.l,
+            form,
+            z.cap,
+            z.allowance,
+            z.at,
+            z.end,
+            kind,
+            q,
+            axis_row(&s[14..at], z.n, z.l, false, q),
+        ),
     }
 }
 

@@ -7,6 +7,7 @@ use lib.ListN.{length, getD}
 use Rattle.model.specs.Events.{Form, State, words}
 use Rattle.history.specs.Words.{historyRoom}
 use Rattle.history.specs.Sizes.{formOf, Narrow}
+use Rattle.history.specs.declared.forms.Form as forms
 use Rattle.store.specs.declared.header.Sizes.{Sizes}
 use Rattle.store.specs.declared.header.Framed.{Framed}
 use Rattle.store.specs.declared.header.Framed.the-variants as framed
@@ -18,6 +19,11 @@ use Rattle.store.specs.Stores.{historyPlace, formCode, Stored}
 pub record Enough (s : List ℕ) : Type 0 where
   pub header : 14 ≤ length s
   pub size : getD s 0 0 ≤ length s
+
+-- The sizes as one value, where a function takes them one by one: a struct handed over in memory is written in words and read back in pairs, and
+-- the machine waits for that (docs/SPEED.md).
+abbrev pub sizes : (n l : ℕ) → forms.Form → (cap allowance at end : ℕ) → Sizes
+sizes n l form cap allowance at end = record { n = n; l = l; form = form; cap = cap; allowance = allowance; at = at; end = end }
 
 -- the header's n and l, and frames of that size are there
 pub record Framing (n l : ℕ) (s : List ℕ) : Type 0 where

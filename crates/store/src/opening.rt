@@ -23,7 +23,14 @@ fn too_wide(form: Form, n: usize) -> bool
 }
 
 // 0, or the number of the refusal: "At opening 1, 2, 3".
-fn open_number(n: usize, cap: usize, allowance: u64, form: Form, labels: usize, words: usize) -> u32
+pub fn open_number(
+    n: usize,
+    cap: usize,
+    allowance: u64,
+    form: Form,
+    labels: usize,
+    words: usize,
+) -> u32
     ensures { λ r. ⌜ r ≡ openNumber n cap allowance (formOf form) labels words ⌝ }
 {
     if n == 0 {

@@ -11,7 +11,7 @@ rotate-requires : tie.Need-rotate-requires
 rotate-requires c κs =
     let s = c .before .before .before .before .before .before .before in
     let m = c .before .before .before .mark .given in
-    (s .pre .0, s .pre .1, rotation-in (s .args .z .n) (s .args .mark) (s .pre .2) (m .0 .0) (m .0 .1 .0) (m .0 .1 .1 .0) (m .1))
+    (s .pre .0, s .pre .1, rotation-in (s .args .n) (s .args .mark) (s .pre .2) (m .0 .0) (m .0 .1 .0) (m .0 .1 .1 .0) (m .1))
 
 enum-known-mark-2 : tie.Need-enum-known-mark-2
 enum-known-mark-2 c = search needs
@@ -20,7 +20,7 @@ block-requires : tie.Need-block-requires
 block-requires c κs =
     let s = c .before .before .before .before .before .before .before in
     let m = c .before .before .before .mark2 .given in
-    (s .pre .0, s .pre .1, measure-in (s .args .z .n) (s .args .mark) (s .pre .2) (m .0 .0) (m .1))
+    (s .pre .0, s .pre .1, measure-in (s .args .n) (s .args .mark) (s .pre .2) (m .0 .0) (m .1))
 
 enum-known-mark-3 : tie.Need-enum-known-mark-3
 enum-known-mark-3 c = search needs
@@ -29,7 +29,7 @@ block-both-requires : tie.Need-block-both-requires
 block-both-requires c κs =
     let s = c .before .before .before .before .before .before .before in
     let m = c .before .before .before .mark3 .given in
-    (s .pre .0, s .pre .1, reset-in (s .args .z .n) (s .args .mark) (s .pre .2) (m .0 .0) (m .1))
+    (s .pre .0, s .pre .1, reset-in (s .args .n) (s .args .mark) (s .pre .2) (m .0 .0) (m .1))
 
 enum-known-mark-4 : tie.Need-enum-known-mark-4
 enum-known-mark-4 c = search needs
@@ -38,7 +38,7 @@ block-products-requires : tie.Need-block-products-requires
 block-products-requires c κs =
     let s = c .before .before .before .before .before .before .before in
     let m = c .before .before .before .mark4 .given in
-    let w = ccx-in (s .args .z .n) (s .args .mark) (s .pre .2) (m .0 .0) (m .0 .1 .0) (m .0 .1 .1 .0) (m .1) in
+    let w = ccx-in (s .args .n) (s .args .mark) (s .pre .2) (m .0 .0) (m .0 .1 .0) (m .0 .1 .1 .0) (m .1) in
     (s .pre .0, s .pre .1, w .first, w .second, w .third)
 
 enum-known-mark-5 : tie.Need-enum-known-mark-5
@@ -48,7 +48,7 @@ block-products-requires-2 : tie.Need-block-products-requires-2
 block-products-requires-2 c κs =
     let s = c .before .before .before .before .before .before .before in
     let m = c .before .before .before .mark5 .given in
-    let w = ccz-in (s .args .z .n) (s .args .mark) (s .pre .2) (m .0 .0) (m .0 .1 .0) (m .0 .1 .1 .0) (m .1) in
+    let w = ccz-in (s .args .n) (s .args .mark) (s .pre .2) (m .0 .0) (m .0 .1 .0) (m .0 .1 .1 .0) (m .1) in
     (s .pre .0, s .pre .1, w .first, w .second, w .third)
 
 same-length : tie.Need-same-length

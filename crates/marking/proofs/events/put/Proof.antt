@@ -3,6 +3,7 @@ use Rattle.pauli.proofs.Words.{rest-length}
 use Rattle.marking.proofs.PutMarks.{put-fit, put-kept, put-bad}
 use mathlib.Core.Path.{_∙_}
 use Rattle.store.proofs.LentLaws.{lent-length, lent-sized}
+use Rattle.store.specs.Checks.{sizes}
 use native.Mathlib.Omega.{arith}
 use borrow.Author.Needs.{needs}
 use Rattle.marking.proofs.events.put.Statement.{statement}
@@ -33,7 +34,7 @@ record-requires : tie.Need-record-requires
 record-requires c κs =
     let s = c .before .before .before .before in
     let a = s .args in
-    (lent-sized (a .z) (a .s .now) (s .pre .0), omega (arith, rest-length (a .row .now) 1, s .pre .1), s .pre .2)
+    (lent-sized (sizes (a .n) (a .l) (a .form) (a .cap) (a .allowance) (a .at) (a .end)) (a .s .now) (s .pre .0), omega (arith, rest-length (a .row .now) 1, s .pre .1), s .pre .2)
 
 enum-told : tie.Need-enum-told
 enum-told c = search needs
@@ -50,8 +51,8 @@ returns c =
     let a = s .args in
     let x = c .before .before .before .before in
     let ys = x .«record» .last .0 in (
-      put-fit (a .z) (a .s .now) ys (s .pre .0) (x .«record» .ensures .0 ∙ lent-length (a .z) (a .s .now) (s .pre .0)),
-      put-kept (a .z) (a .s .now) ys (a .row .now) (a .body) (x .«record» .result) (s .pre .0) (x .«record» .ensures .1),
+      put-fit (sizes (a .n) (a .l) (a .form) (a .cap) (a .allowance) (a .at) (a .end)) (a .s .now) ys (s .pre .0) (x .«record» .ensures .0 ∙ lent-length (sizes (a .n) (a .l) (a .form) (a .cap) (a .allowance) (a .at) (a .end)) (a .s .now) (s .pre .0)),
+      put-kept (sizes (a .n) (a .l) (a .form) (a .cap) (a .allowance) (a .at) (a .end)) (a .s .now) ys (a .row .now) (a .body) (x .«record» .result) (s .pre .0) (x .«record» .ensures .1),
     )
 
 same-length-2 : tie.Need-same-length-2
@@ -63,8 +64,8 @@ returns-2 c =
     let a = s .args in
     let x = c .before .before .before .before in
     let ys = x .«record» .last .0 in (
-      put-fit (a .z) (a .s .now) ys (s .pre .0) (x .«record» .ensures .0 ∙ lent-length (a .z) (a .s .now) (s .pre .0)),
-      put-bad (a .z) (a .s .now) ys (a .row .now) (a .body) (x .«record» .result) (s .pre .0) (x .«record» .ensures .1) (c .enum-told2 .given .1),
+      put-fit (sizes (a .n) (a .l) (a .form) (a .cap) (a .allowance) (a .at) (a .end)) (a .s .now) ys (s .pre .0) (x .«record» .ensures .0 ∙ lent-length (sizes (a .n) (a .l) (a .form) (a .cap) (a .allowance) (a .at) (a .end)) (a .s .now) (s .pre .0)),
+      put-bad (sizes (a .n) (a .l) (a .form) (a .cap) (a .allowance) (a .at) (a .end)) (a .s .now) ys (a .row .now) (a .body) (x .«record» .result) (s .pre .0) (x .«record» .ensures .1) (c .enum-told2 .given .1),
     )
 
 pub put-spec : {M : Type 1} → statement M

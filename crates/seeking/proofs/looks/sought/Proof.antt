@@ -3,6 +3,7 @@ use mathlib.Core.Path.{_∙_}
 use Rattle.model.specs.Calls.{refused}
 use Rattle.frame.specs.Axes.{kindOf}
 use Rattle.history.proofs.LookLaws.{sign-bits}
+use Rattle.store.specs.Checks.{sizes}
 use Rattle.store.specs.Promises.{number, toldLook}
 use Rattle.seeking.proofs.SeekLaws.{row-length, sight-small, sought-none, sought-seen}
 use Rattle.frame.proofs.AxisLaws.{is-signed}
@@ -59,8 +60,8 @@ look-requires c κs =
     let s = c .before .before .before .before .before .before .before .before .before .before in
     let r = c .before .before .before .before .before .before .before .row-sign in
     let g = c .before .before .before .before .before .sign .given in (
-      lent-sized (s .args .z) (s .args .s .now) (s .pre .0),
-      row-length (s .args .z .l) (s .args .row .now) (s .pre .2),
+      lent-sized (sizes (s .args .n) (s .args .l) (s .args .form) (s .args .cap) (s .args .allowance) (s .args .at) (s .args .end)) (s .args .s .now) (s .pre .0),
+      row-length (s .args .l) (s .args .row .now) (s .pre .2),
       sign-bits (g .0 .0) (is-signed (r .result) (g .0 .0) (r .ensures .1 .0) (g .1)),
     )
 
@@ -72,7 +73,7 @@ unfolding toldLook number
 returns c =
     let s = c .before .before .before .before .before in
     let r = c .before .before .row-sign in
-    (omega arith, sought-none (s .args .z) (s .args .s .now) (s .pre .0) (kindOf (s .args .kind)) (s .args .q) (s .pre .1) (s .args .row .now) (s .pre .2) (r .result) (r .ensures .0) (c .enum-told .given .1) (refused 9))
+    (omega arith, sought-none (sizes (s .args .n) (s .args .l) (s .args .form) (s .args .cap) (s .args .allowance) (s .args .at) (s .args .end)) (s .args .s .now) (s .pre .0) (kindOf (s .args .kind)) (s .args .q) (s .pre .1) (s .args .row .now) (s .pre .2) (r .result) (r .ensures .0) (c .enum-told .given .1) (refused 9))
 
 returns-2 : tie.Need-returns-2
 returns-2 c =
@@ -81,7 +82,7 @@ returns-2 c =
     let g = c .before .before .before .before .before .before .before .sign .given in (
       sight-small (c .before .look .result) (toldLook (c .sight .result)) (c .sight .ensures),
       λ m held row.
-          c .sight .ensures ∙ sought-seen (s .args .z) (s .args .s .now) (s .pre .0) (kindOf (s .args .kind)) (s .args .q) (s .pre .1) (s .args .row .now) (s .pre .2) (r .result) (r .ensures .0) (g .0 .0) (is-signed (r .result) (g .0 .0) (r .ensures .1 .0) (g .1)) (g .1) (c .before .before .before .before .label .result) (c .before .before .before .before .label .ensures) (c .before .look .result) (c .before .look .ensures) m held row,
+          c .sight .ensures ∙ sought-seen (sizes (s .args .n) (s .args .l) (s .args .form) (s .args .cap) (s .args .allowance) (s .args .at) (s .args .end)) (s .args .s .now) (s .pre .0) (kindOf (s .args .kind)) (s .args .q) (s .pre .1) (s .args .row .now) (s .pre .2) (r .result) (r .ensures .0) (g .0 .0) (is-signed (r .result) (g .0 .0) (r .ensures .1 .0) (g .1)) (g .1) (c .before .before .before .before .label .result) (c .before .before .before .before .label .ensures) (c .before .look .result) (c .before .look .ensures) m held row,
     )
 
 pub sought-spec : {M : Type 1} → statement M

@@ -2,6 +2,7 @@
 use Rattle.model.proofs.Members.{clash}
 use Rattle.frame.specs.Axes.{kindOf}
 use Rattle.store.proofs.LentLaws.{frames-held}
+use Rattle.store.specs.Checks.{sizes}
 use Rattle.store.specs.Promises.{number, toldLook}
 use native.Mathlib.Omega.{arith}
 use borrow.Author.Needs.{needs}
@@ -30,7 +31,7 @@ returns : tie.Need-returns
 unfolding kindOf
 returns c =
     let s = c .before .before .before .before .before .before .before .before .before .before in
-    (c .sought .ensures .0, λ m held. c .sought .ensures .1 m held (c .before .before .before .before .before .y-product .ensures .1 (m .frame) (m .sketch) (frames-held (s .args .z) (s .args .s .now) (s .pre .0) m (held .stored)) .1))
+    (c .sought .ensures .0, λ m held. c .sought .ensures .1 m held (c .before .before .before .before .before .y-product .ensures .1 (m .frame) (m .sketch) (frames-held (sizes (s .args .n) (s .args .l) (s .args .form) (s .args .cap) (s .args .allowance) (s .args .at) (s .args .end)) (s .args .s .now) (s .pre .0) m (held .stored)) .1))
 
 same-length-2 : tie.Need-same-length-2
 same-length-2 c = search needs
@@ -39,7 +40,7 @@ returns-2 : tie.Need-returns-2
 unfolding toldLook number
 returns-2 c =
     let s = c .before .before .before .before .before .before .before .before in
-    (omega arith, λ m held. absurd (clash (c .before .before .before .y-product .result) (c .before .before .before .y-product .ensures .1 (m .frame) (m .sketch) (frames-held (s .args .z) (s .args .s .now) (s .pre .0) m (held .stored)) .0) (c .if1 .left)))
+    (omega arith, λ m held. absurd (clash (c .before .before .before .y-product .result) (c .before .before .before .y-product .ensures .1 (m .frame) (m .sketch) (frames-held (sizes (s .args .n) (s .args .l) (s .args .form) (s .args .cap) (s .args .allowance) (s .args .at) (s .args .end)) (s .args .s .now) (s .pre .0) m (held .stored)) .0) (c .if1 .left)))
 
 pub sought-y-spec : {M : Type 1} → statement M
 sought-y-spec =
