@@ -6,6 +6,8 @@
 
 pub mod raw;
 
+use std::mem::MaybeUninit;
+
 /// Why an opening or a call was refused; nothing has changed then.
 #[derive(Clone, Copy, Debug, PartialEq, Eq)]
 pub enum Refusal {
@@ -76,10 +78,11 @@ pub enum Sight {
     Out { steps: u32 },
 }
 
-/// A store with its own words.
+/// A store with its own words. An opening relies on none of their old contents, so they are taken from the allocator as they come and never
+/// swept; words that no state relies on may stay so.
 #[derive(Clone)]
 pub struct Store {
-    words: Box<[u64]>,
+    words: Box<[MaybeUninit<u64>]>,
 }
 
 impl Form {
@@ -150,32 +153,26 @@ impl Store {
     /// Z high, Z low.
     pub fn open(n: usize, events: usize, steps: u64, form: Form, labels: &[u64]) -> Result<Self, Refusal> {
         // Where no opening accepts the sizes any words will do: the opening says which of them is refused.
-        let mut words = vec![0; Self::need(n, events, form).unwrap_or(0)].into_boxed_slice();
-        // SAFETY: both slices are lent with their own lengths, and `labels` is not part of `words`.
+        let mut store = Self { words: Box::new_uninit_slice(Self::need(n, events, form).unwrap_or(0)) };
+        let (at, words) = store.lent();
+        // SAFETY: both slices are lent with their own lengths, and `labels` is not part of the store.
         let number = unsafe {
-            raw::tillbonnet_open(
-                words.as_mut_ptr(),
-                words.len(),
-                n,
-                events,
-                steps,
-                form.number(),
-                labels.as_ptr(),
-                labels.len(),
-            )
+            raw::tillbonnet_open(at, words, n, events, steps, form.number(), labels.as_ptr(), labels.len())
         };
-        told(number).map(|()| Self { words })
+        told(number).map(|()| store)
     }
 
     pub fn gate(&mut self, gate: Gate) -> Result<(), Refusal> {
         let (number, a, b) = gate.numbers();
+        let (at, words) = self.lent();
         // SAFETY: the words are lent with their own length; so in every call below.
-        told(unsafe { raw::tillbonnet_gate(self.words.as_mut_ptr(), self.words.len(), number, a, b) })
+        told(unsafe { raw::tillbonnet_gate(at, words, number, a, b) })
     }
 
     /// A turn by k eighths of a full turn: 0, 2, 4 or 6.
     pub fn turn(&mut self, kind: Kind, k: u64, q: usize) -> Result<(), Refusal> {
-        told(unsafe { raw::tillbonnet_turn(self.words.as_mut_ptr(), self.words.len(), kind.number(), k, q) })
+        let (at, words) = self.lent();
+        told(unsafe { raw::tillbonnet_turn(at, words, kind.number(), k, q) })
     }
 
     /// Records a rotation; its number.
@@ -205,37 +202,29 @@ impl Store {
 
     /// Kills a rotation that merged away.
     pub fn kill(&mut self, id: usize) -> Result<(), Refusal> {
-        told(unsafe { raw::tillbonnet_kill(self.words.as_mut_ptr(), self.words.len(), id) })
+        let (at, words) = self.lent();
+        told(unsafe { raw::tillbonnet_kill(at, words, id) })
     }
 
     /// From now on no rotation recorded so far can be found.
     pub fn clear(&mut self) {
-        let number = unsafe { raw::tillbonnet_clear(self.words.as_mut_ptr(), self.words.len()) };
-        told(number).expect("a clear of an open store is never refused");
+        let (at, words) = self.lent();
+        told(unsafe { raw::tillbonnet_clear(at, words) }).expect("a clear of an open store is never refused");
     }
 
     /// Tag, sign and whether the rotation is live, of dead ones too.
     pub fn read(&self, id: usize) -> Result<Reading, Refusal> {
         let mut says = [0; 3];
-        told(unsafe {
-            raw::tillbonnet_read(self.words.as_ptr(), self.words.len(), id, says.as_mut_ptr(), says.len())
-        })?;
+        let (at, words) = self.shown();
+        told(unsafe { raw::tillbonnet_read(at, words, id, says.as_mut_ptr(), says.len()) })?;
         Ok(Reading { tag: says[0] as u32, sign: says[1] as i8, live: says[2] != 0 })
     }
 
     /// Looks for the partner of a rotation about qubit q.
     pub fn look(&self, kind: Kind, q: usize) -> Result<Sight, Refusal> {
         let mut says = [0; 4];
-        told(unsafe {
-            raw::tillbonnet_look(
-                self.words.as_ptr(),
-                self.words.len(),
-                kind.number(),
-                q,
-                says.as_mut_ptr(),
-                says.len(),
-            )
-        })?;
+        let (at, words) = self.shown();
+        told(unsafe { raw::tillbonnet_look(at, words, kind.number(), q, says.as_mut_ptr(), says.len()) })?;
         let [what, id, sign, steps] = says;
         let steps = steps as u32;
         Ok(match what {
@@ -246,14 +235,25 @@ impl Store {
         })
     }
 
-    /// The words, for a reader that knows docs/STORE.md.
-    pub fn words(&self) -> &[u64] {
+    /// The words as they stand, for a reader that knows docs/STORE.md. Those that no state relies on may never have been written.
+    pub fn words(&self) -> &[MaybeUninit<u64>] {
         &self.words
+    }
+
+    /// The words to write to, and how many.
+    fn lent(&mut self) -> (*mut u64, usize) {
+        (self.words.as_mut_ptr().cast(), self.words.len())
+    }
+
+    /// The words to read.
+    fn shown(&self) -> (*const u64, usize) {
+        (self.words.as_ptr().cast(), self.words.len())
     }
 
     fn recorded(&mut self, call: impl FnOnce(*mut u64, usize, *mut usize) -> u32) -> Result<usize, Refusal> {
         let mut first = 0;
-        told(call(self.words.as_mut_ptr(), self.words.len(), &mut first))?;
+        let (at, words) = self.lent();
+        told(call(at, words, &mut first))?;
         Ok(first)
     }
 }

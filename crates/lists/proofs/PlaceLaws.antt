@@ -4,6 +4,7 @@ use mathlib.Core.Logic.{⊎-elim}
 use mathlib.Core.List.{List}
 use Prim.Native.Nat.{ℕ, _+_, _-_, _≤_, _<_}
 use native.Mathlib.Omega.{arith}
+use native.Mathlib.Decide.{decLt}
 use lib.ListN.{length, getD, take, drop}
 use lib.Seq.{getD-drop}
 use Rattle.pauli.proofs.Words.{rest-part, rest-length}
@@ -53,42 +54,44 @@ module _ (ids : List ℕ) (lo : ℕ) where
   rest-at : (k : ℕ) → getD (take (length ids - lo) (drop lo ids)) k 0 ≡ getD ids (lo + k) 0
   rest-at k = ap (λ (p : List ℕ). getD p k 0) (rest-part ids lo) ∙ getD-drop lo ids k 0
 
-  pub rises-rest : Rises ids → Rises (take (length ids - lo) (drop lo ids))
+  rest-from : (p : ℕ) → lo ≤ p → getD (take (length ids - lo) (drop lo ids)) (p - lo) 0 ≡ getD ids p 0
+  rest-from p l =
+      let f : lo + (p - lo) ≡ p = omega arith in
+      rest-at (p - lo) ∙ ap (λ (i : ℕ). getD ids i 0) f
+
+  rises-rest : Rises ids → Rises (take (length ids - lo) (drop lo ids))
   rises-rest r i j l m =
       let e = rest-at i in
       let f = rest-at j in
       let n = rest-length ids lo in
       omega (arith, e, f, r (lo + i) (lo + j) (omega arith) (omega (arith, n)))
 
-  -- where lo is not past the number, and k is the first place past it in the part: it stands nowhere if k is 0, and else at lo + k - 1 alone
-  module _ (id k : ℕ) (low : 0 < lo → getD ids lo 0 ≤ id) (inside : lo < length ids)
-      (splits : Rises (take (length ids - lo) (drop lo ids)) → Splits (take (length ids - lo) (drop lo ids)) id k) where
-    rest-above : Rises ids → (p : ℕ) → lo + k ≤ p → p < length ids → id < getD ids p 0
-    rest-above r p l m =
-        let e = rest-at (p - lo) in
-        let n = rest-length ids lo in
-        let f : lo + (p - lo) ≡ p = omega arith in
-        omega (arith, e, ap (λ (i : ℕ). getD ids i 0) f, splits (rises-rest r) .above (p - lo) (omega arith) (omega (arith, n)))
+  -- where lo is not past the number, and k is the first place past it in the part: lo + k is the first one in the whole list
+  pub splits-rest : (a k : ℕ) → (0 < lo → getD ids lo 0 ≤ a) → lo < length ids → (Rises (take (length ids - lo) (drop lo ids)) → Splits (take (length ids - lo) (drop lo ids)) a k) → Rises ids → Splits ids a (lo + k)
+  splits-rest a k low inside part r =
+      let s = part (rises-rest r) in
+      let n = rest-length ids lo in
+      record {
+        within = omega (arith, s .within, n);
+        below = λ p l.
+            elim (decLt p lo) [
+              | yes q ↦ omega (arith, low (omega arith), r p lo q inside)
+              | no q ↦ omega (arith, rest-from p (omega arith), s .below (p - lo) (omega arith))
+            ];
+        above = λ p l m. omega (arith, rest-from p (omega arith), s .above (p - lo) (omega arith) (omega (arith, n)));
+      }
 
-    pub none-there : k ≡ 0 → Rises ids → (p : ℕ) → p < length ids → getD ids p 0 ≡ id → ⊥
-    none-there z r p l e =
-        ⊎-elim
-        (λ (q : lo < p). omega (arith, rest-above r p (omega arith) l))
-        (⊎-elim
-        (λ (q : p ≡ lo). omega (arith, rest-above r p (omega arith) l))
-        (λ (q : p < lo). omega (arith, low (omega arith), rest-above r lo (omega arith) inside)))
-        (three p lo)
+-- ---- the place before the first one past the number
 
-    rest-below : Rises ids → 0 < k → getD ids (lo + k - 1) 0 ≤ id
-    rest-below r h =
-        let f : lo + (k - 1) ≡ lo + k - 1 = omega arith in
-        omega (arith, rest-at (k - 1), ap (λ (i : ℕ). getD ids i 0) f, splits (rises-rest r) .below (k - 1) (omega arith))
+module _ (ids : List ℕ) (id k : ℕ) (splits : Rises ids → Splits ids id k) where
+  pub none-there : k ≡ 0 → Rises ids → (p : ℕ) → p < length ids → getD ids p 0 ≡ id → ⊥
+  none-there z r p l e = omega (arith, splits r .above p (omega arith) l)
 
-    pub other-there : 0 < k → k ≤ length ids - lo → (getD ids (lo + k - 1) 0 ≡ id → ⊥) → Rises ids → (p : ℕ) → p < length ids → getD ids p 0 ≡ id → ⊥
-    other-there h w d r p l e =
-        ⊎-elim
-        (λ (q : lo + k - 1 < p). omega (arith, rest-above r p (omega arith) l))
-        (⊎-elim
-        (λ (q : p ≡ lo + k - 1). d (sym (ap (λ (i : ℕ). getD ids i 0) q) ∙ e))
-        (λ (q : p < lo + k - 1). omega (arith, rest-below r h, r p (lo + k - 1) q (omega arith))))
-        (three p (lo + k - 1))
+  pub other-there : 0 < k → (getD ids (k - 1) 0 ≡ id → ⊥) → Rises ids → (p : ℕ) → p < length ids → getD ids p 0 ≡ id → ⊥
+  other-there h d r p l e =
+      ⊎-elim
+      (λ (q : k - 1 < p). omega (arith, splits r .above p (omega arith) l))
+      (⊎-elim
+      (λ (q : p ≡ k - 1). d (sym (ap (λ (i : ℕ). getD ids i 0) q) ∙ e))
+      (λ (q : p < k - 1). omega (arith, splits r .below (k - 1) (omega arith), r p (k - 1) q (omega (arith, splits r .within)))))
+      (three p (k - 1))

@@ -3,8 +3,8 @@ ghost use Prim.Native.Nat.{_<_, _≤_};
 ghost use lib.ListN.{length, getD};
 ghost use Rattle.lists.specs.Lists.{Rises, Splits, Sought};
 
-// The place of the first number past `after`, or the length.
-pub fn first_after(ids: &[u64], after: u64) -> usize
+// The place of the first number past `after`, or the length, by halving.
+fn first_after(ids: &[u64], after: u64) -> usize
     ensures within { λ r. ⌜ r ≤ length (now (ids .entry)) ⌝ }
     ensures splits { λ r. ⌜ (Rises (now (ids .entry)) → Splits (now (ids .entry)) after r) ⌝ }
 {
@@ -43,25 +43,34 @@ fn gallop(ids: &[u64], id: u64) -> usize
     0
 }
 
+// The same place, by halving from where the gallop ends: a scan starts after a partner, which is usually a recent event. (The Rust's scans
+// halve over the whole list.)
+pub fn first_past(ids: &[u64], after: u64) -> usize
+    ensures within { λ r. ⌜ r ≤ length (now (ids .entry)) ⌝ }
+    ensures splits { λ r. ⌜ (Rises (now (ids .entry)) → Splits (now (ids .entry)) after r) ⌝ }
+{
+    if ids.len() == 0 {
+        return 0;
+    }
+    let lo = gallop(ids, after);
+    lo + first_after(&ids[lo..], after)
+}
+
 // A place in a list, or that the number is not there.
 pub enum Place {
     At(usize),
     Lost,
 }
 
-// The place of `id`: from where the gallop ends, by halving.
+// The place of `id`: the one before the first number past it, if `id` stands there.
 pub fn place_of(ids: &[u64], id: u64) -> Place
     ensures { λ r. ⌜ Sought (now (ids .entry)) id r ⌝ }
 {
-    if ids.len() == 0 {
-        return Place::Lost;
-    }
-    let lo = gallop(ids, id);
-    let k = first_after(&ids[lo..], id);
+    let k = first_past(ids, id);
     if k == 0 {
         return Place::Lost;
     }
-    let p = lo + k - 1;
+    let p = k - 1;
     if ids[p] != id {
         return Place::Lost;
     }

@@ -2,7 +2,7 @@
 // its dead count stand at `at`, its numbers in `cap` words from `base` on.
 use super::budget::Budget;
 use super::budget::Scan;
-use super::places::first_after;
+use super::places::first_past;
 use pauli::rows::anticommutes;
 use pauli::sets::contains;
 ghost use mathlib.Core.Path.{_≡_};
@@ -175,7 +175,7 @@ pub fn scan(
     requires { ⌜ (base + len ≤ length (now h)) × (sigs + events ≤ length (now h)) × (axes + events * (2 * l) ≤ length (now h)) × (length (now axis) ≡ 2 * l) × (bit < 64) ⌝ }
     ensures { λ r. ⌜ ((s : State) → Scannable s bit l events (now (h .entry)) base len sigs axes → sig ≡ signature l (ofRow 0 (now (axis .entry)) .x) (ofRow 0 (now (axis .entry)) .z) → has sig bit ≡ 1 → r ≡ scanOf (walk (scalarList s after (ofRow 0 (now (axis .entry)) .x) (ofRow 0 (now (axis .entry)) .z) bit) (budget .0))) ⌝ }
 {
-    let start = first_after(&h[base..base + len], after as u64);
+    let start = first_past(&h[base..base + len], after as u64);
     let left = budget.0 as usize;
     let rest = len - start;
     let end = if left < rest { start + left } else { len };

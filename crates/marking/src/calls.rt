@@ -4,7 +4,8 @@ use super::events::marked;
 use store::answers::Answer;
 use store::header::Checked;
 use store::header::Sizes;
-use store::header::all_sizes;
+use store::header::check;
+use store::header::sizes_of;
 use store::qubits::single;
 use store::qubits::triple;
 ghost use mathlib.Core.Path.{_≡_};
@@ -121,9 +122,12 @@ fn enter(s: &mut [u64], z: Sizes, mark: Mark) -> Answer
 pub fn enroll(s: &mut [u64], mark: Mark) -> Answer
     ensures { λ r. ⌜ Meets (callOf mark) (now (s .entry)) (told r) (now (s .exit)) ⌝ }
 {
-    match all_sizes(s) {
+    match check(s) {
         Checked::Short => Answer::Refused(3),
         Checked::Bad => Answer::Refused(9),
-        Checked::Ready(z) => enter(s, z, mark),
+        Checked::Ready => {
+            let z = sizes_of(s);
+            enter(s, z, mark)
+        }
     }
 }

@@ -2,7 +2,7 @@
 // `support_signature` and `anticommutes`). A row's phase is a number beside its words.
 ghost use mathlib.Core.Path.{_≡_};
 ghost use mathlib.Core.Logic.{_⊎_};
-ghost use Prim.Native.Nat.{ℕ, _+_, _*_, _%_, _≤_, _<_, _^_};
+ghost use Prim.Native.Nat.{ℕ, _+_, _*_, _/_, _%_, _≤_, _<_, _^_};
 ghost use lib.ListN.{length};
 ghost use lib.Bits.{bitAnd, bitOr};
 ghost use lib.IntN.{_*ℤ_, negℤ};
@@ -132,6 +132,24 @@ pub fn same(a: &[u64], b: &[u64]) -> bool
 
 // ---- the support signature: bit q / l for each qubit q of the axis
 
+// The block of qubit q, of l qubits each. A division by a constant is a product and a shift; one by l is a `div` for each qubit of an axis.
+// 192 qubits have l = 3.
+fn block_of(q: usize, l: usize) -> usize
+    requires { ⌜ 0 < l ⌝ }
+    ensures { λ r. ⌜ r ≡ q / l ⌝ }
+{
+    if l == 1 {
+        return q;
+    }
+    if l == 2 {
+        return q / 2;
+    }
+    if l == 3 {
+        return q / 3;
+    }
+    q / l
+}
+
 // sig with the bits of the qubits of word j, whose digits are w.
 fn marked(sig: u64, w: u64, j: usize, l: usize) -> u64
     requires { ⌜ (j < l) × (l ≤ 362) ⌝ }
@@ -141,7 +159,7 @@ fn marked(sig: u64, w: u64, j: usize, l: usize) -> u64
     let mut v = w;
     while v != 0 {
         let q = 64 * j + u64::trailing_zeros(v) as usize;
-        sum |= 1 << (q / l);
+        sum |= 1 << block_of(q, l);
         v &= v - 1;
     }
     sum

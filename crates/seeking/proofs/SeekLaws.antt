@@ -1,21 +1,22 @@
 -- The parts of a slice as the code lends them, and each way in which a kill, a clear, a read and a look end: for the functions of this crate.
 -- Assumes nothing.
 use mathlib.Core.Path.{_≡_, refl, sym, ap, _∙_, subst}
+use mathlib.Core.Logic.{inl, inr, ⊎-elim}
 use mathlib.Core.Bool.{Bool, true, false, cond}
 use mathlib.Core.List.{List, [], _∷_}
 use Prim.Native.Nat.{ℕ, _+_, _-_, _*_, _^_, _≤_, _<_}
 use native.Mathlib.Omega.{arith}
 use lib.ListN.{length, getD}
-use lib.IntN.{ℤ}
+use lib.IntN.{ℤ, pos, negsuc, negℤ, _*ℤ_}
 use mir.Syntax.{w8}
-use mir.Val.{SFits}
+use mir.Val.{SFits, ofZ}
 use mir.ValLaws.{toZ-ofZ}
 use Rattle.model.specs.Pauli.{Pauli, sign}
 use Rattle.model.specs.Frame as model
 use Rattle.model.specs.Frame.{Rows, axis, paulis}
 use Rattle.model.specs.Sketch.{Label, labels}
-use Rattle.model.specs.Events.{Form, State, some, clear, kill}
-use Rattle.model.specs.Search.{Look, found, none, blocked, out, look, lookFor}
+use Rattle.model.specs.Events.{Body, Form, State, eventAt, some, clear, kill}
+use Rattle.model.specs.Search.{Walk, done, stopped, dry, walk, phase1, phase2, Look, found, signAt, spent, looked1, looked2, look, lookFor}
 use Rattle.model.specs.Demands.{IsSign, HasSign}
 use Rattle.model.specs.Calls.{twice, callKill, callClear, callRead, callLook, notKillable, notReadable, Reading, reading, answer, answerTo, Reply, refused, accepted, says, looked, replyOf, effect}
 use Rattle.model.proofs.Invariant.{even-axis}
@@ -25,7 +26,7 @@ use Rattle.pauli.specs.Rows as rows
 use Rattle.pauli.specs.Rows.{ofRow}
 use Rattle.pauli.specs.declared.rows.Signum.{Signum}
 use Rattle.pauli.specs.declared.rows.Signum.the-variants as signum
-use Rattle.pauli.proofs.Signs.{bits8, bits8-sign}
+use Rattle.pauli.proofs.Signs.{sign-cases, bits8, bits8-sign}
 use Rattle.pauli.proofs.Words.{rest-length}
 use Rattle.frame.specs.Places as frames
 use Rattle.frame.specs.Places.{IsRow}
@@ -34,7 +35,7 @@ use Rattle.frame.specs.declared.axes.Kind.{Kind}
 use Rattle.frame.specs.declared.axes.Kind.the-variants as kinds
 use Rattle.frame.specs.declared.axes.Tag.{Tag}
 use Rattle.frame.proofs.AxisLaws.{behind, row-behind, is-sign, some-sign}
-use Rattle.history.specs.Words.{Holds, Sane, Becomes}
+use Rattle.history.specs.Words.{bodyWord, Holds, Sane, Becomes}
 use Rattle.history.specs.Sizes as history
 use Rattle.history.specs.Sizes.{formOf}
 use Rattle.history.specs.Kills as kills
@@ -46,8 +47,11 @@ use Rattle.history.specs.declared.events.Told.{Told}
 use Rattle.history.specs.declared.events.Told.the-variants as told
 use Rattle.history.specs.declared.looks.Seen.{Seen}
 use Rattle.history.specs.declared.looks.Seen.the-variants as seen
+use Rattle.history.proofs.EventLaws.{rotation-tells}
+use Rattle.history.proofs.LookLaws.{sign-bits, stopped-there}
 use Rattle.history.proofs.KillLaws.{nothing-says, nothing-bad, bad-says, done-kept, bad-kept, bad-done}
 use Rattle.store.specs.declared.header.Sizes.{Sizes}
+use Rattle.store.specs.declared.answers.Sight.{Sight}
 use Rattle.store.specs.declared.answers.Sight.the-variants as sight
 use Rattle.store.specs.Stores.{Stored, Held, StoredTo}
 use Rattle.store.specs.Checks.{Fit}
@@ -57,7 +61,7 @@ use Rattle.store.proofs.StoreLaws.{killed-to, cleared-to}
 use Rattle.store.proofs.AnswerLaws.{answer-last, last-named, numbered}
 use Rattle.store.proofs.LentLaws.{held-good, held-sane, lent, lentFrames, back, room-is, lent-holds, frames-held, back-length, back-same, back-place, history-fits, as-history}
 use Rattle.store.proofs.MeetLaws.{refuse-answers, accept-answers, nine-answers, refuse-meets, nine-meets, accept-meets}
-use Rattle.seeking.specs.Sights.{sightOf}
+use Rattle.seeking.specs.Sights.{SignSeen, sightOf}
 
 -- ---- the answer of a call that records nothing
 
@@ -204,57 +208,88 @@ module _ (z : Sizes) (s : List ℕ) (fit : Fit z s) (id : ℕ) (r : Told)
 
 -- ---- a look
 
--- what the history saw: the sign is what the machine reads off its bits
-pub sight-found : (v : Seen) (id n : ℕ) (g : ℤ) → SFits w8 g → v ≡ seen.Found id g n → toldLook (sight.Found id (bits8 g) n) ≡ sightOf v
-unfolding toldLook sightOf
-sight-found v id n g small e = ap (λ (a : ℤ). looked (found id a n)) (toZ-ofZ w8 g small) ∙ sym (ap sightOf e)
+-- the sign that a partner keeps, and the row's own: r is what is told of the row's sign
+module _ (row : List ℕ) (r : Signum) (signs : (l : ℕ) (p : Pauli) → length row ≡ 2 * l + 1 → IsRow l row 0 p → r ≡ rows.answer (sign p)) (id n : ℕ) (kept : ℤ) where
+  abbrev Relative : Sight → Type 0
+  Relative v = (l : ℕ) (p : Pauli) → length row ≡ 2 * l + 1 → IsRow l row 0 p → HasSign p → IsSign kept → toldLook v ≡ looked (found id (kept *ℤ sign p) n)
 
--- whatever it saw, no number is above 9
-seen-small : (v : Seen) → number (sightOf v) ≤ 9
-unfolding number sightOf
-seen-small (seen.Found id g n) = omega arith
-seen-small (seen.Free n) = omega arith
-seen-small (seen.Blocked n) = omega arith
-seen-small (seen.Exhausted n) = omega arith
-seen-small seen.Bad = omega arith
+  -- "0 gives +1, 2 gives -1, and 1 or 3 never occurs"
+  pub relative-none : r ≡ signum.No → Relative (sight.Refused 9)
+  relative-none e l p long i s t = absurd (some-sign (sign p) s (sym e ∙ signs l p long i))
 
-pub sight-small : (v : Seen) (a : Reply) → a ≡ sightOf v → number a ≤ 9
-sight-small v a e = omega (arith, ap number e, seen-small v)
+  module _ (own : ℤ) (signed : IsSign own) (e : r ≡ signum.Is own) where
+    relative-is : (both : ℤ) → (IsSign kept → both ≡ kept *ℤ own) → Relative (sight.Found id both n)
+    unfolding toldLook
+    relative-is both f l p long i s t = ap (λ (k : ℤ). looked (found id k n)) (f t ∙ ap (λ (k : ℤ). kept *ℤ k) (is-sign (sign p) own s (sym e ∙ signs l p long i)))
 
-look-sight : (w : Look) → sightOf (lookOf w) ≡ looked w
-unfolding sightOf lookOf
-look-sight (found id g n) = refl
-look-sight (none n) = refl
-look-sight (blocked n) = refl
-look-sight (out n) = refl
+    pub relative-same : ofZ w8 kept ≡ 1 → Relative (sight.Found id (bits8 own) n)
+    relative-same k = relative-is (bits8 own) (λ t.
+        sign-cases (λ (a : ℤ). ofZ w8 a ≡ 1 → bits8 own ≡ a *ℤ own) (λ u. sign-cases (λ (b : ℤ). bits8 b ≡ pos 1 *ℤ b) refl refl own signed)
+        (λ u. let v : _≡_ {A = ℕ} 255 1 = u in absurd (omega arith)) kept t k)
 
-same-look : (m : State) (g h : ℤ) (a b : Label) (x y u w : ℕ) → g ≡ h → a ≡ b → x ≡ y → u ≡ w → lookFor m g a x u ≡ lookFor m h b y w
-same-look m g h a b x y u w e f i j = rw (e, f, i, j) refl
+    pub relative-other : (other : ℤ) → other ≡ negℤ (bits8 own) → IsSign other → (ofZ w8 kept ≡ 1 → ⊥) → Relative (sight.Found id (bits8 other) n)
+    relative-other other o s k = relative-is (bits8 other) (λ t.
+        bits8-sign other s ∙ o
+        ∙ sign-cases (λ (a : ℤ). (ofZ w8 a ≡ 1 → ⊥) → negℤ (bits8 own) ≡ a *ℤ own) (λ u. absurd (u refl))
+        (λ u. sign-cases (λ (b : ℤ). negℤ (bits8 b) ≡ negsuc 0 *ℤ b) refl refl own signed) kept t k)
+
+-- a partner that was seen: its sign is what the machine reads off its bits
+pub sight-found : (v : Seen) (id n : ℕ) (g h : ℤ) (a : Reply) → v ≡ seen.Found id g n → SignSeen v → (IsSign (bits8 g) → a ≡ looked (found id (bits8 g *ℤ h) n)) → a ≡ sightOf h v
+unfolding sightOf
+sight-found v id n g h a e s f =
+    let t : IsSign g = rw e at s in
+    f (sign-bits g t) ∙ ap (λ (k : ℤ). looked (found id (k *ℤ h) n)) (bits8-sign g t) ∙ sym (ap (sightOf h) e)
+
+-- A look for the axis taken with the sign +1, and one for the axis with the sign g: a partner has the sign that it keeps in the first, and its
+-- product with g in the second.
+module _ (m : State) (sane : Sane m) (g : ℤ) (a : Label) (x z : ℕ) where
+  abbrev Turned : Look → Look → Type 0
+  Turned v w = SignSeen (lookOf v) × (sightOf g (lookOf v) ≡ looked w)
+
+  turned2 : (id : ℕ) → IsSign (signAt (eventAt (m .events) id .body)) → (w : Walk) → Turned (looked2 m (pos 1) id w) (looked2 m g id w)
+  unfolding looked2 lookOf sightOf
+  turned2 id s (done left) =
+      sign-cases (λ (k : ℤ). IsSign (k *ℤ pos 1) × (looked (found id (k *ℤ pos 1 *ℤ g) (spent m left)) ≡ looked (found id (k *ℤ g) (spent m left))))
+      (inl refl, refl) (inr refl, refl) (signAt (eventAt (m .events) id .body)) s
+  turned2 id s (stopped j left) = (tt, refl)
+  turned2 id s (dry left) = (tt, refl)
+
+  turned1 : (w : Walk) → walk (phase1 m a x z) (m .given .allowance) ≡ w → Turned (looked1 m (pos 1) x z w) (looked1 m g x z w)
+  unfolding looked1 lookOf sightOf
+  turned1 (done left) e = (tt, refl)
+  turned1 (stopped id left) e =
+      let there = stopped-there m a x z (m .given .allowance) id left e in
+      let b : Body = eventAt (m .events) id .body in
+      turned2 id (⊎-elim (λ u. inl (u .1)) (λ u. inr (u .1)) (rotation-tells (bodyWord b) b refl (sane .signs id (there .0)) (there .1) .sgn)) (walk (phase2 m id x z) left)
+  turned1 (dry left) e = (tt, refl)
+
+  look-turned : Turned (lookFor m (pos 1) a x z) (lookFor m g a x z)
+  unfolding lookFor
+  look-turned = turned1 (walk (phase1 m a x z) (m .given .allowance)) refl
+
+same-look : (m : State) (g : ℤ) (a b : Label) (x y u w : ℕ) → a ≡ b → x ≡ y → u ≡ w → lookFor m g a x u ≡ lookFor m g b y w
+same-look m g a b x y u w f i j = rw (f, i, j) refl
 
 -- the words behind a row's phase
 pub row-length : (l : ℕ) (row : List ℕ) → length row ≡ 2 * l + 1 → length (behind 1 row) ≡ 2 * l
 row-length l row long = omega (arith, rest-length row 1, long)
 
 -- the look for the axis of a kind, whose row is given
-module _ (z : Sizes) (s : List ℕ) (fit : Fit z s) (kind : model.Kind) (q : ℕ) (inside : q < z .n) (row : List ℕ) (long : length row ≡ 2 * z .l + 1) (r : Signum)
-    (signs : (l : ℕ) (p : Pauli) → length row ≡ 2 * l + 1 → IsRow l row 0 p → r ≡ rows.answer (sign p)) where
+module _ (z : Sizes) (s : List ℕ) (fit : Fit z s) (kind : model.Kind) (q : ℕ) (inside : q < z .n) (row : List ℕ) (long : length row ≡ 2 * z .l + 1) where
   axis-signed : (m : State) → Held m s → HasSign (axis paulis kind q (m .frame))
   axis-signed m h =
       let l : q < m .given .n = omega (arith, inside, own z m s fit (h .stored) .qubits) in
       has-sign (axis paulis kind q (m .frame)) (even-axis (m .given .n) (m .frame) kind q (held-good m s h .sound) l)
 
-  -- "0 gives +1, 2 gives -1, and 1 or 3 never occurs": a row without a sign is none of a state's
-  pub sought-none : r ≡ signum.No → (a : Reply) (m : State) → Held m s → IsRow (z .l) row 0 (axis paulis kind q (m .frame)) → a ≡ looked (look kind q m)
-  sought-none e a m h i = absurd (some-sign (sign (axis paulis kind q (m .frame))) (axis-signed m h) (sym e ∙ signs (z .l) (axis paulis kind q (m .frame)) long i))
-
-  pub sought-seen : (g : ℤ) → IsSign g → r ≡ signum.Is g
-      → (t : Tag) → ((f : Rows Pauli) (k : Rows Label) → frames.Held (z .n) (z .l) f k (lentFrames z s) → tagOf t ≡ axis labels kind q k)
+  -- v is what the history saw of the axis taken with the sign +1, and a the answer
+  pub sought-seen : (t : Tag) → ((f : Rows Pauli) (k : Rows Label) → frames.Held (z .n) (z .l) f k (lentFrames z s) → tagOf t ≡ axis labels kind q k)
       → (v : Seen) → ((m : State) → Holds (formOf (z .form)) (z .n) (z .cap) (z .l) m (lent z s) → Sane m → m .given .allowance ≡ z .allowance
       → ofRow 0 (behind 1 row) .x < 2 ^ z .n → ofRow 0 (behind 1 row) .z < 2 ^ z .n
-      → v ≡ lookOf (lookFor m (bits8 g) (labelOf (t .high) (t .low)) (ofRow 0 (behind 1 row) .x) (ofRow 0 (behind 1 row) .z)))
-      → (m : State) → Held m s → IsRow (z .l) row 0 (axis paulis kind q (m .frame)) → sightOf v ≡ looked (look kind q m)
+      → v ≡ lookOf (lookFor m (pos 1) (labelOf (t .high) (t .low)) (ofRow 0 (behind 1 row) .x) (ofRow 0 (behind 1 row) .z)))
+      → (a : Reply) → ((l : ℕ) (p : Pauli) → length row ≡ 2 * l + 1 → IsRow l row 0 p → HasSign p → SignSeen v → a ≡ sightOf (sign p) v)
+      → (m : State) → Held m s → IsRow (z .l) row 0 (axis paulis kind q (m .frame)) → a ≡ looked (look kind q m)
   unfolding look ofRow tagOf labelOf
-  sought-seen g signed e t tags v seen-is m h i =
+  sought-seen t tags v seen-is a turns m h i =
       let p : Pauli = axis paulis kind q (m .frame) in
       let o : Own z m = own z m s fit (h .stored) in
       let same : ofRow (getD row 0 0) (behind 1 row) ≡ p = row-behind (z .l) row p long i in
@@ -263,13 +298,14 @@ module _ (z : Sizes) (s : List ℕ) (fit : Fit z s) (kind : model.Kind) (q : ℕ
       let b = within-axis (m .given .n) kind q (m .frame) (held-good m s h .within) in
       let x-small : ofRow 0 (behind 1 row) .x < 2 ^ z .n = subst (λ (k : ℕ). ofRow 0 (behind 1 row) .x < 2 ^ k) (o .qubits) (subst (λ (k : ℕ). k < 2 ^ m .given .n) (sym x-same) (b .x-small)) in
       let z-small : ofRow 0 (behind 1 row) .z < 2 ^ z .n = subst (λ (k : ℕ). ofRow 0 (behind 1 row) .z < 2 ^ k) (o .qubits) (subst (λ (k : ℕ). k < 2 ^ m .given .n) (sym z-same) (b .z-small)) in
-      let g-same : bits8 g ≡ sign p = bits8-sign g signed ∙ is-sign (sign p) g (axis-signed m h) (sym e ∙ signs (z .l) p long i) in
-      let l-same : labelOf (t .high) (t .low) ≡ axis labels kind q (m .sketch) = tags (m .frame) (m .sketch) (frames-held z s fit m (h .stored)) in
-      ap sightOf (seen-is m (lent-holds z s fit m (h .stored)) (held-sane m s h) (o .allowance) x-small z-small)
-      ∙ look-sight (lookFor m (bits8 g) (labelOf (t .high) (t .low)) (ofRow 0 (behind 1 row) .x) (ofRow 0 (behind 1 row) .z))
-      ∙ ap looked
-      (same-look m (bits8 g) (sign p) (labelOf (t .high) (t .low)) (axis labels kind q (m .sketch)) (ofRow 0 (behind 1 row) .x) (p .x) (ofRow 0 (behind 1 row) .z) (p .z)
-      g-same l-same x-same z-same)
+      let label : Label = axis labels kind q (m .sketch) in
+      let l-same : labelOf (t .high) (t .low) ≡ label = tags (m .frame) (m .sketch) (frames-held z s fit m (h .stored)) in
+      let e : v ≡ lookOf (lookFor m (pos 1) label (p .x) (p .z)) =
+      seen-is m (lent-holds z s fit m (h .stored)) (held-sane m s h) (o .allowance) x-small z-small
+      ∙ ap lookOf
+      (same-look m (pos 1) (labelOf (t .high) (t .low)) label (ofRow 0 (behind 1 row) .x) (p .x) (ofRow 0 (behind 1 row) .z) (p .z) l-same x-same z-same) in
+      let w = look-turned m (held-sane m s h) (sign p) label (p .x) (p .z) in
+      turns (z .l) p long i (axis-signed m h) (subst SignSeen (sym e) (w .0)) ∙ ap (sightOf (sign p)) e ∙ w .1
 
 pub look-y : (kind : Kind) (q : ℕ) (a : Reply) (m : State) → kind ≡ kinds.Y → a ≡ looked (look model.kindY q m) → a ≡ looked (look (kindOf kind) q m)
 unfolding kindOf

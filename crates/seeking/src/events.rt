@@ -5,7 +5,8 @@ use history::kill::Killed;
 use store::answers::Answer;
 use store::answers::Reading;
 use store::header::Checked;
-use store::header::all_sizes;
+use store::header::check;
+use store::header::sizes_of;
 ghost use Rattle.model.specs.Calls.{callKill, callClear, callRead};
 ghost use Rattle.store.specs.Promises.{told, toldRead, Answers, Meets};
 
@@ -13,10 +14,11 @@ ghost use Rattle.store.specs.Promises.{told, toldRead, Answers, Meets};
 pub fn kill(s: &mut [u64], id: usize) -> Answer
     ensures { λ r. ⌜ Meets (callKill id) (now (s .entry)) (told r) (now (s .exit)) ⌝ }
 {
-    match all_sizes(s) {
+    match check(s) {
         Checked::Short => Answer::Refused(3),
         Checked::Bad => Answer::Refused(9),
-        Checked::Ready(z) => {
+        Checked::Ready => {
+            let z = sizes_of(s);
             let at = z.at;
             let end = z.end;
             let form = z.form;
@@ -33,10 +35,11 @@ pub fn kill(s: &mut [u64], id: usize) -> Answer
 pub fn clear(s: &mut [u64]) -> Answer
     ensures { λ r. ⌜ Meets callClear (now (s .entry)) (told r) (now (s .exit)) ⌝ }
 {
-    match all_sizes(s) {
+    match check(s) {
         Checked::Short => Answer::Refused(3),
         Checked::Bad => Answer::Refused(9),
-        Checked::Ready(z) => {
+        Checked::Ready => {
+            let z = sizes_of(s);
             let at = z.at;
             let end = z.end;
             history::record::clear(&mut s[at..end]);
@@ -49,10 +52,11 @@ pub fn clear(s: &mut [u64]) -> Answer
 pub fn read(s: &[u64], id: usize) -> Reading
     ensures { λ r. ⌜ Answers (callRead id) (now (s .entry)) (toldRead r) ⌝ }
 {
-    match all_sizes(s) {
+    match check(s) {
         Checked::Short => Reading::Refused(3),
         Checked::Bad => Reading::Refused(9),
-        Checked::Ready(z) => {
+        Checked::Ready => {
+            let z = sizes_of(s);
             let at = z.at;
             let end = z.end;
             match history::events::read(&s[at..end], z.l, z.cap, id) {

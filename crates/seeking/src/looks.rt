@@ -8,34 +8,57 @@ use frame::axes::y_product;
 use history::forms::Form;
 use history::looks::Seen;
 use pauli::rows::Signum;
+use pauli::rows::opposite;
 use store::answers::Sight;
 use store::header::Checked;
 use store::header::Sizes;
-use store::header::all_sizes;
+use store::header::check;
+use store::header::sizes_of;
 ghost use mathlib.Core.Path.{_≡_};
-ghost use Prim.Native.Nat.{_+_, _*_, _≤_, _<_};
+ghost use Prim.Native.Nat.{ℕ, _+_, _*_, _%_, _≤_, _<_};
 ghost use lib.ListN.{length};
+ghost use lib.IntN.{_*ℤ_};
+ghost use Rattle.model.specs.Pauli.{Pauli, sign};
 ghost use Rattle.model.specs.Frame.{axis, kindY, paulis};
 ghost use Rattle.model.specs.Events.{State};
-ghost use Rattle.model.specs.Search.{look};
+ghost use Rattle.model.specs.Search.{look, found};
+ghost use Rattle.model.specs.Demands.{IsSign, HasSign};
 ghost use Rattle.model.specs.Calls.{looked, callLook};
 ghost use Rattle.frame.specs.Places.{IsRow};
 ghost use Rattle.frame.specs.Axes.{kindOf};
 ghost use Rattle.store.specs.Stores.{Held};
 ghost use Rattle.store.specs.Checks.{Fit, sizes};
 ghost use Rattle.store.specs.Promises.{number, toldLook, Answers};
-ghost use Rattle.seeking.specs.Sights.{sightOf};
+ghost use Rattle.seeking.specs.Sights.{SignSeen, sightOf};
 
-// What the history saw, as the answer of a look.
-fn sight(seen: Seen) -> Sight
-    ensures { λ r. ⌜ toldLook r ≡ sightOf seen ⌝ }
+// The partner `id` as the answer of a look: the relative sign is the product of the sign it keeps and the row's own. Only here is the row's sign
+// worked out, which takes a walk over its words. On words that hold no state `kept` can be any number, so nothing is multiplied.
+fn relative(id: usize, kept: i8, steps: u32, row: &[u64]) -> Sight
+    requires { ⌜ length (now row) % 2 ≡ 1 ⌝ }
+    ensures few { λ r. ⌜ number (toldLook r) ≤ 9 ⌝ }
+    ensures says { λ r. ⌜ ((l : ℕ) (p : Pauli) → length (now (row .entry)) ≡ 2 * l + 1 → IsRow l (now (row .entry)) 0 p → HasSign p → IsSign kept → toldLook r ≡ looked (found id (kept *ℤ sign p) steps)) ⌝ }
+{
+    match row_sign(row) {
+        Signum::No => Sight::Refused(9),
+        Signum::Is(own) => {
+            let both = if kept == 1 { own } else { opposite(own) };
+            Sight::Found {
+                id: id,
+                sign: both,
+                steps: steps,
+            }
+        }
+    }
+}
+
+// What the history saw of the row's axis taken with the sign +1, as the answer of a look.
+fn sight(seen: Seen, row: &[u64]) -> Sight
+    requires { ⌜ length (now row) % 2 ≡ 1 ⌝ }
+    ensures few { λ r. ⌜ number (toldLook r) ≤ 9 ⌝ }
+    ensures says { λ r. ⌜ ((l : ℕ) (p : Pauli) → length (now (row .entry)) ≡ 2 * l + 1 → IsRow l (now (row .entry)) 0 p → HasSign p → SignSeen seen → toldLook r ≡ sightOf (sign p) seen) ⌝ }
 {
     match seen {
-        Seen::Found { id, sign, steps } => Sight::Found {
-            id: id,
-            sign: sign,
-            steps: steps,
-        },
+        Seen::Found { id, sign, steps } => relative(id, sign, steps, row),
         Seen::Free(steps) => Sight::Nothing(steps),
         Seen::Blocked(steps) => Sight::Blocked(steps),
         Seen::Exhausted(steps) => Sight::Out(steps),
@@ -61,24 +84,22 @@ fn sought(
     ensures few { λ r. ⌜ number (toldLook r) ≤ 9 ⌝ }
     ensures says { λ r. ⌜ ((m : State) → Held m (now (s .entry)) → IsRow l (now (row .entry)) 0 (axis paulis (kindOf kind) q (m .frame)) → toldLook r ≡ looked (look (kindOf kind) q m)) ⌝ }
 {
-    match row_sign(row) {
-        Signum::No => Sight::Refused(9),
-        Signum::Is(sign) => {
-            let tag = label(&s[14..at], n, l, kind, q);
-            sight(history::looks::look(
-                &s[at..end],
-                form,
-                n,
-                l,
-                cap,
-                &row[1..],
-                sign,
-                tag.high,
-                tag.low,
-                allowance,
-            ))
-        }
-    }
+    let tag = label(&s[14..at], n, l, kind, q);
+    sight(
+        history::looks::look(
+            &s[at..end],
+            form,
+            n,
+            l,
+            cap,
+            &row[1..],
+            1,
+            tag.high,
+            tag.low,
+            allowance,
+        ),
+        row,
+    )
 }
 
 // The look for the axis y, whose row is written to `out`.
@@ -210,10 +231,11 @@ fn sought_kind(s: &[u64], z: Sizes, kind: Kind, q: usize) -> Sight
 pub fn look(s: &[u64], kind: Kind, q: usize) -> Sight
     ensures { λ r. ⌜ Answers (callLook (kindOf kind) q) (now (s .entry)) (toldLook r) ⌝ }
 {
-    match all_sizes(s) {
+    match check(s) {
         Checked::Short => Sight::Refused(3),
         Checked::Bad => Sight::Refused(9),
-        Checked::Ready(z) => {
+        Checked::Ready => {
+            let z = sizes_of(s);
             if z.n <= q {
                 return Sight::Refused(4);
             }

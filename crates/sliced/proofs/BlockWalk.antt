@@ -355,7 +355,7 @@ Remains h base cap n len after ax az left₀ b left =
     (s : State) (q : ℕ) → length (listAt s q) ≡ len → Reps h base cap n (map (entryOf (s .events)) (listAt s q)) → Rises (listAt s q)
     → (k : ℕ) × (len ≤ b * 64 + k) × (walk (map (block s after ax az) (blocks k (drop (b * 64) (listAt s q)))) left ≡ walk (slicedList s after ax az q) left₀)
 
--- what `first_after` finds is where the numbers of the list split
+-- what `first_past` finds is where the numbers of the list split
 abbrev pub Found : List ℕ → (base len after start : ℕ) → Type 0
 Found h base len after start = Rises (take (base + len - base) (drop base h)) → Splits (take (base + len - base) (drop base h)) after start
 

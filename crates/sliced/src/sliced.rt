@@ -6,7 +6,7 @@ use lists::budget::Budget;
 use lists::budget::Scan;
 use lists::budget::Spent;
 use lists::places::Place;
-use lists::places::first_after;
+use lists::places::first_past;
 use lists::places::place_of;
 use pauli::bits::lowest;
 use pauli::bits::rest;
@@ -15,6 +15,7 @@ ghost use mathlib.Core.Path.{_≡_};
 ghost use mathlib.Core.Bool.{true, false};
 ghost use mathlib.Core.List.{List, map};
 ghost use Prim.Native.Nat.{ℕ, _+_, _*_, _≤_, _<_, _^_};
+ghost use lib.Count.{ones};
 ghost use lib.ListN.{length, getD};
 ghost use Rattle.model.specs.Pauli.{has};
 ghost use Rattle.model.specs.Events.{State, words};
@@ -230,6 +231,16 @@ pub fn kill(
 
 // ---- a scan
 
+// What a block with these live entries costs. Most blocks are full, and counting takes a dozen instructions.
+fn cost(live: u64) -> u32
+    ensures { λ r. ⌜ r ≡ ones live ⌝ }
+{
+    if live == !0 {
+        return 64;
+    }
+    u64::count_ones(live)
+}
+
 // The blocks of a list of len entries from the one where the first entry after the event `after` would stand: each costs its live entries,
 // earlier ones too, and is then tested.
 pub fn scan(
@@ -246,7 +257,7 @@ pub fn scan(
     requires { ⌜ Spread (now h) base cap n × (len ≤ cap) × (ax < 2 ^ n) × (az < 2 ^ n) ⌝ }
     ensures { λ r. ⌜ ((s : State) (b : ℕ) → length (listAt s b) ≡ len → Reps (now (h .entry)) base cap n (map (entryOf (s .events)) (listAt s b)) → Rises (listAt s b) → r ≡ scanOf (walk (slicedList s after ax az b) (budget .0))) ⌝ }
 {
-    let start = first_after(&h[base..base + len], after as u64);
+    let start = first_past(&h[base..base + len], after as u64);
     let used = (len + 63) / 64;
     let lives = base + cap + (cap + 63) / 64 * (2 * n);
     let mut left = budget;
@@ -254,7 +265,7 @@ pub fn scan(
     let mut first = !0u64 << (start % 64);
     while b < used {
         let live = h[lives + b];
-        let Spent::Left(now) = left.spend(u64::count_ones(live)) else {
+        let Spent::Left(now) = left.spend(cost(live)) else {
             return Scan::Out(left);
         };
         left = now;

@@ -1,6 +1,6 @@
 -- The sizes of a store: what an accepted opening says of them, what the header of a store that holds a state says, that the machine's arithmetic on
 -- them cannot pass 64 bits, and what the tests on the qubits of a call say. For the functions of this crate and for the calls. Assumes nothing.
-use mathlib.Core.Path.{_≡_, refl, sym, ap, _∙_}
+use mathlib.Core.Path.{_≡_, refl, sym, ap, _∙_, subst}
 use mathlib.Core.Logic.{_≢_, inl, inr}
 use mathlib.Core.Bool.{Bool, true, false, cond, _||_, true≢false}
 use mathlib.Core.List.{List, [], _∷_}
@@ -27,7 +27,7 @@ use Rattle.store.specs.declared.header.Checked.{Checked}
 use Rattle.store.specs.declared.header.Checked.the-variants as checked
 use Rattle.store.specs.Stores.{historyPlace, formCode, Stored}
 use Rattle.store.specs.Promises.{qubitNumber}
-use Rattle.store.specs.Checks.{Enough, Framing, Fit, TooShort, Damaged, TellsFrame, TellsAll}
+use Rattle.store.specs.Checks.{Enough, Framing, Fit, sizes, formAt, sizesAt, TooShort, Damaged, TellsFrame, TellsAll}
 
 -- ---- the need of a store
 
@@ -233,15 +233,49 @@ told-bad s r e t = rw e at t
 pub told-ready : (s : List ℕ) (r : Framed) (n l : ℕ) → r ≡ framed.Ready n l → TellsFrame s r → Framing n l s
 told-ready s r n l e t = rw e at t
 
--- and `header::all_sizes`
+-- the sizes that fit are those that the header says
+form-says : (s : List ℕ) (f : forms.Form) → getD s 2 0 ≡ formCode (formOf f) → f ≡ formAt (getD s 2 0)
+unfolding formAt formCode formOf
+form-says s Scalar e = rw e refl
+form-says s Sliced e = rw e refl
+
+same-sizes : (z : Sizes) (n l : ℕ) (f : forms.Form) (c a b e : ℕ) → z .n ≡ n → z .l ≡ l → z .form ≡ f → z .cap ≡ c → z .allowance ≡ a → z .at ≡ b → z .end ≡ e
+    → z ≡ sizes n l f c a b e
+same-sizes z n l f c a b e p q r s t u v = rw (sym p, sym q, sym r, sym s, sym t, sym u, sym v) refl
+
+sizes-are : (s : List ℕ) (z : Sizes) → Fit z s → z ≡ sizesAt s
+unfolding sizesAt
+sizes-are s z h =
+    let n : z .n ≡ getD s 1 0 = sym (h .framing .word) in
+    let l : z .l ≡ words (getD s 1 0) = h .framing .planes ∙ ap words n in
+    let f : z .form ≡ formAt (getD s 2 0) = form-says s (z .form) (h .form-word) in
+    let c : z .cap ≡ getD s 3 0 = sym (h .cap-word) in
+    let b : z .at ≡ historyPlace (getD s 1 0) (words (getD s 1 0)) = rw (sym n, sym (h .framing .planes)) (h .begins) in
+    let e : z .end ≡ historyPlace (getD s 1 0) (words (getD s 1 0)) + historyRoom (formOf (formAt (getD s 2 0))) (getD s 1 0) (getD s 3 0) (words (getD s 1 0)) = rw (sym n, sym (h .framing .planes), sym f, sym c) (h .ends) in
+    same-sizes z _ _ _ _ _ _ _ n l f c (sym (h .allowance-word)) b e
+
+pub sound-of : (s : List ℕ) (z : Sizes) → Fit z s → Fit (sizesAt s) s
+sound-of s z h = subst (λ (x : Sizes). Fit x s) (sizes-are s z h) h
+
+-- and what `header::sizes_of` reads
+pub fit-read : (s : List ℕ) (f : forms.Form) (room : ℕ) → Fit (sizesAt s) s → f ≡ formAt (getD s 2 0) → room ≡ historyRoom (formOf f) (getD s 1 0) (getD s 3 0) (words (getD s 1 0))
+    → let at = historyPlace (getD s 1 0) (words (getD s 1 0)) in Fit (sizes (getD s 1 0) (words (getD s 1 0)) f (getD s 3 0) (getD s 4 0) at (at + room)) s
+unfolding sizesAt
+fit-read s f room h e r = rw (r, e) h
+
+pub read-few : (s : List ℕ) → Fit (sizesAt s) s → (getD s 1 0 ≤ 23168) × (getD s 3 0 ≤ 2 ^ 24) × (getD s 4 0 ≤ 2 ^ 20)
+unfolding sizesAt
+read-few s h = (h .framing .few, h .few, h .steps)
+
+-- and `header::check`
 pub tells-short : (s : List ℕ) (r : Checked) → r ≡ checked.Short → TellsAll s r → TooShort s
 tells-short s r e t = rw e at t
 
 pub tells-bad : (s : List ℕ) (r : Checked) → r ≡ checked.Bad → TellsAll s r → Damaged s
 tells-bad s r e t = rw e at t
 
-pub tells-ready : (s : List ℕ) (r : Checked) (z : Sizes) → r ≡ checked.Ready z → TellsAll s r → Fit z s
-tells-ready s r z e t = rw e at t
+pub tells-ready : (s : List ℕ) (r : Checked) → r ≡ checked.Ready → TellsAll s r → Fit (sizesAt s) s
+tells-ready s r e t = rw e at t
 
 pub sliced-narrow : (n l : ℕ) (s : List ℕ) → Framing n l s → n ≤ 32 → Narrow sliced n l
 sliced-narrow n l s f h = (h, f .planes ∙ one-plane n (f .some) h)

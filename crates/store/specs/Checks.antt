@@ -8,6 +8,9 @@ use Rattle.model.specs.Events.{Form, State, words}
 use Rattle.history.specs.Words.{historyRoom}
 use Rattle.history.specs.Sizes.{formOf, Narrow}
 use Rattle.history.specs.declared.forms.Form as forms
+use Rattle.history.specs.declared.forms.Form.the-variants as variants
+use mathlib.Core.Bool.{cond}
+use lib.Dec.{eqb}
 use Rattle.store.specs.declared.header.Sizes.{Sizes}
 use Rattle.store.specs.declared.header.Framed.{Framed}
 use Rattle.store.specs.declared.header.Framed.the-variants as framed
@@ -48,6 +51,19 @@ pub record Fit (z : Sizes) (s : List ℕ) : Type 0 where
   pub ends : z .end ≡ historyPlace (z .n) (z .l) + historyRoom (formOf (z .form)) (z .n) (z .cap) (z .l)
   pub fits : z .end ≤ length s
 
+-- the form that a word of the header says: 0 scalar, else sliced
+unfoldable pub formAt : ℕ → forms.Form
+formAt w = cond (eqb w 0) variants.Scalar variants.Sliced
+
+-- the sizes that the header's words say
+unfoldable pub sizesAt : List ℕ → Sizes
+sizesAt s =
+    let n = getD s 1 0 in
+    let l = words n in
+    let form = formAt (getD s 2 0) in
+    let at = historyPlace n l in
+    sizes n l form (getD s 3 0) (getD s 4 0) at (at + historyRoom (formOf form) n (getD s 3 0) l)
+
 -- too short to hold the header, or shorter than at its opening
 abbrev pub TooShort : List ℕ → Type 0
 TooShort s = (length s < 14) ⊎ (length s < getD s 0 0)
@@ -62,7 +78,7 @@ TellsFrame s framed.Short = TooShort s
 TellsFrame s framed.Bad = Damaged s
 
 abbrev pub TellsAll : List ℕ → Checked → Type 0
-TellsAll s (checked.Ready z) = Fit z s
+TellsAll s checked.Ready = Fit (sizesAt s) s
 TellsAll s checked.Short = TooShort s
 TellsAll s checked.Bad = Damaged s
 

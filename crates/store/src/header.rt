@@ -8,7 +8,7 @@ ghost use lib.ListN.{getD};
 ghost use Rattle.history.specs.Words.{historyRoom};
 ghost use Rattle.history.specs.Sizes.{formOf, Narrow};
 ghost use Rattle.store.specs.Stores.{formCode};
-ghost use Rattle.store.specs.Checks.{Framing, TellsFrame, TellsAll};
+ghost use Rattle.store.specs.Checks.{Framing, Fit, formAt, sizesAt, TellsFrame, TellsAll};
 
 // The sizes of a store: n qubits, l words to a plane, the form of its lists, the room for events and the steps of a look; and where the history's
 // part begins and ends.
@@ -29,9 +29,9 @@ pub enum Framed {
     Bad,
 }
 
-// What the whole header says.
+// What the whole header says: its sizes are in their ranges and all their words are there (`sizes_of` reads them); or as above.
 pub enum Checked {
-    Ready(Sizes),
+    Ready,
     Short,
     Bad,
 }
@@ -76,8 +76,9 @@ pub fn history_room(form: Form, n: usize, l: usize, cap: usize) -> usize
     }
 }
 
-// What every other call has to know of a store.
-pub fn all_sizes(s: &[u64]) -> Checked
+// What every other call asks of a store. The sizes are not in the answer: they would go through memory, and each caller uses few of them
+// (docs/SPEED.md).
+pub fn check(s: &[u64]) -> Checked
     ensures { λ r. ⌜ TellsAll (now (s .entry)) r ⌝ }
 {
     match frame_sizes(s) {
@@ -99,7 +100,7 @@ pub fn all_sizes(s: &[u64]) -> Checked
     }
 }
 
-// The sizes of a store of this form, n and l.
+// The same of a store of this form, n and l.
 fn sized(s: &[u64], n: usize, l: usize, form: Form) -> Checked
     requires { ⌜ Framing n l (now s) × (getD (now s) 2 0 ≡ formCode (formOf form)) × Narrow (formOf form) n l ⌝ }
     ensures { λ r. ⌜ TellsAll (now (s .entry)) r ⌝ }
@@ -121,8 +122,32 @@ fn sized(s: &[u64], n: usize, l: usize, form: Form) -> Checked
     if size < end {
         return Checked::Bad;
     }
-    let steps = allowance as u32;
-    Checked::Ready(Sizes {
+    Checked::Ready
+}
+
+// The form that a word of the header says.
+fn form_at(word: u64) -> Form
+    ensures { λ r. ⌜ r ≡ formAt word ⌝ }
+{
+    if word == 0 {
+        return Form::Scalar;
+    }
+    Form::Sliced
+}
+
+// The sizes of a store whose header was found in order.
+pub fn sizes_of(s: &[u64]) -> Sizes
+    requires { ⌜ Fit (sizesAt (now s)) (now s) ⌝ }
+    ensures { λ r. ⌜ Fit r (now (s .entry)) ⌝ }
+{
+    let n = s[1] as usize;
+    let l = (n + 63) / 64;
+    let form = form_at(s[2]);
+    let cap = s[3] as usize;
+    let steps = s[4] as u32;
+    let at = 14 + (2 * n * (2 * l + 1) + 2 * (2 * n));
+    let end = at + history_room(form, n, l, cap);
+    Sizes {
         n: n,
         l: l,
         form: form,
@@ -130,5 +155,5 @@ fn sized(s: &[u64], n: usize, l: usize, form: Form) -> Checked
         allowance: steps,
         at: at,
         end: end,
-    })
+    }
 }

@@ -8,6 +8,8 @@
 
 use super::*;
 
+pub mod speed;
+
 #[derive(Clone, Copy, Debug, PartialEq, Eq)]
 pub enum Form {
     Scalar,

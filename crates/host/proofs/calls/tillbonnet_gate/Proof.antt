@@ -1,8 +1,8 @@
+-- `host::calls::tillbonnet_gate` meets its contract: by the gate. Assumes nothing.
 use Rattle.host.specs.Named.{gateNamed}
 use Rattle.store.specs.Promises.{told}
 use Rattle.host.proofs.Naming.{meant, unnamed}
-use mathlib.Core.Path.{_≡_, refl, sym, ap, _∙_}
-use native.Mathlib.Omega.{arith}
+use mathlib.Core.Path.{refl, sym, ap, _∙_}
 use borrow.Author.Needs.{needs}
 use Rattle.host.proofs.calls.tillbonnet_gate.Statement.{statement}
 use Rattle.host.proofs.calls.tillbonnet_gate.Tie as tie
@@ -12,36 +12,28 @@ use Rattle.host.proofs.named.gate_named.Reads as gate-named-reads
 use Rattle.host.proofs.words.number_of.Reads as number-of-reads
 use Rattle.partner.proofs.calls.gate.Reads as gate-reads
 
--- src/calls.rt:58:11
 gate-named-requires : tie.Need-gate-named-requires
 gate-named-requires c κs = search needs
 
--- src/calls.rt:59:26
 enum-known-g : tie.Need-enum-known-g
 enum-known-g c = search needs
 
--- src/calls.rt:59:42
 gate-requires : tie.Need-gate-requires
 gate-requires c κs = search needs
 
--- src/calls.rt:59:32
 number-of-requires : tie.Need-number-of-requires
 number-of-requires c κs = search needs
 
--- src/calls.rt:60:31
 enum-told : tie.Need-enum-told
 enum-told c = search needs
 
--- src/calls.rt:54:1
 same-length : tie.Need-same-length
 same-length c = search needs
 
--- src/calls.rt:54:1
 returns : tie.Need-returns
 unfolding gateNamed
 returns c = meant _ _ _ _ (sym (ap gateNamed (c .before .before .before .before .before .before .g .given .1)) ∙ c .before .before .before .before .before .before .before .before .gate-named .ensures) (record { reply = told (c .before .before .before .gate .result); meets = c .before .before .before .gate .ensures; number-is = c .number-of .ensures })
 
--- src/calls.rt:54:1
 returns-2 : tie.Need-returns-2
 unfolding gateNamed
 returns-2 c = unnamed _ _ _ (sym (ap gateNamed (c .enum-told .given .1)) ∙ c .before .before .gate-named .ensures) (refl, refl)

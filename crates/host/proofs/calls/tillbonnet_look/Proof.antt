@@ -1,9 +1,9 @@
+-- `host::calls::tillbonnet_look` meets its contract: by the room and the kind. Assumes nothing.
 use Rattle.host.specs.Named.{kindNamed}
 use Rattle.store.specs.Promises.{toldLook}
 use Rattle.host.proofs.Naming.{roomy, cramped}
 use Rattle.host.proofs.Naming.{meant, unnamed}
-use mathlib.Core.Path.{_≡_, refl, sym, ap, _∙_}
-use native.Mathlib.Omega.{arith}
+use mathlib.Core.Path.{refl, sym, ap, _∙_}
 use borrow.Author.Needs.{needs}
 use Rattle.host.proofs.calls.tillbonnet_look.Statement.{statement}
 use Rattle.host.proofs.calls.tillbonnet_look.Tie as tie
@@ -13,40 +13,31 @@ use Rattle.host.proofs.named.kind_named.Reads as kind-named-reads
 use Rattle.host.proofs.words.sight_into.Reads as sight-into-reads
 use Rattle.partner.proofs.calls.look.Reads as look-reads
 
--- src/calls.rt:154:9
 returns : tie.Need-returns
 returns c = cramped _ _ _ _ (c .if1 .taken) (refl, refl)
 
--- src/calls.rt:156:11
 kind-named-requires : tie.Need-kind-named-requires
 kind-named-requires c κs = search needs
 
--- src/calls.rt:157:26
 enum-known-d : tie.Need-enum-known-d
 enum-known-d c = search needs
 
--- src/calls.rt:157:43
 look-requires : tie.Need-look-requires
 look-requires c κs = search needs
 
--- src/calls.rt:157:32
 sight-into-requires : tie.Need-sight-into-requires
 sight-into-requires c κs = c .before .before .before .before .before .before .if1 .left
 
--- src/calls.rt:158:31
 enum-told : tie.Need-enum-told
 enum-told c = search needs
 
--- src/calls.rt:149:1
 same-length : tie.Need-same-length
 same-length c = search needs
 
--- src/calls.rt:149:1
 returns-2 : tie.Need-returns-2
 unfolding kindNamed
 returns-2 c = roomy _ _ _ _ (c .before .before .before .before .before .before .before .before .before .if1 .left) (meant _ _ _ _ (sym (ap kindNamed (c .before .before .before .before .before .before .d .given .1)) ∙ c .before .before .before .before .before .before .before .before .kind-named .ensures) (record { reply = toldLook (c .before .before .before .before .look .result); answers = c .before .before .before .before .look .ensures; number-is = c .before .before .sight-into .ensures .0; words-are = c .before .before .sight-into .ensures .1 }))
 
--- src/calls.rt:149:1
 returns-3 : tie.Need-returns-3
 unfolding kindNamed
 returns-3 c = roomy _ _ _ _ (c .before .before .before .if1 .left) (unnamed _ _ _ (sym (ap kindNamed (c .enum-told .given .1)) ∙ c .before .before .kind-named .ensures) (refl, refl))

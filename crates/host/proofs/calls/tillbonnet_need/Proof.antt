@@ -1,7 +1,7 @@
+-- `host::calls::tillbonnet_need` meets its contract: by the form. Assumes nothing.
 use Rattle.host.specs.Named.{formNamed}
 use Rattle.host.proofs.Naming.{meant, unnamed}
-use mathlib.Core.Path.{_≡_, refl, sym, ap, _∙_}
-use native.Mathlib.Omega.{arith}
+use mathlib.Core.Path.{refl, sym, ap, _∙_}
 use borrow.Author.Needs.{needs}
 use Rattle.host.proofs.calls.tillbonnet_need.Statement.{statement}
 use Rattle.host.proofs.calls.tillbonnet_need.Tie as tie
@@ -10,28 +10,22 @@ use Rattle.host.proofs.calls.tillbonnet_need.Lts as lts
 use Rattle.host.proofs.named.form_named.Reads as form-named-reads
 use Rattle.host.proofs.sizes.needed_words.Reads as needed-words-reads
 
--- src/calls.rt:29:11
 form-named-requires : tie.Need-form-named-requires
 form-named-requires c κs = search needs
 
--- src/calls.rt:30:26
 enum-known-f : tie.Need-enum-known-f
 enum-known-f c = search needs
 
--- src/calls.rt:30:32
 needed-words-requires : tie.Need-needed-words-requires
 needed-words-requires c κs = search needs
 
--- src/calls.rt:31:31
 enum-told : tie.Need-enum-told
 enum-told c = search needs
 
--- src/calls.rt:25:1
 returns : tie.Need-returns
 unfolding formNamed
 returns c = meant _ _ _ _ (sym (ap formNamed (c .before .before .f .given .1)) ∙ c .before .before .before .before .form-named .ensures) (c .needed-words .ensures)
 
--- src/calls.rt:25:1
 returns-2 : tie.Need-returns-2
 unfolding formNamed
 returns-2 c = unnamed _ _ _ (sym (ap formNamed (c .enum-told .given .1)) ∙ c .before .before .form-named .ensures) refl

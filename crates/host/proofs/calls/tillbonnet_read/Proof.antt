@@ -1,7 +1,7 @@
+-- `host::calls::tillbonnet_read` meets its contract: by the room. Assumes nothing.
 use Rattle.store.specs.Promises.{toldRead}
 use Rattle.host.proofs.Naming.{roomy, cramped}
 use mathlib.Core.Path.{refl}
-use native.Mathlib.Omega.{arith}
 use borrow.Author.Needs.{needs}
 use Rattle.host.proofs.calls.tillbonnet_read.Statement.{statement}
 use Rattle.host.proofs.calls.tillbonnet_read.Tie as tie
@@ -10,23 +10,18 @@ use Rattle.host.proofs.calls.tillbonnet_read.Lts as lts
 use Rattle.host.proofs.words.reading_into.Reads as reading-into-reads
 use Rattle.partner.proofs.calls.read.Reads as read-reads
 
--- src/calls.rt:142:9
 returns : tie.Need-returns
 returns c = cramped _ _ _ _ (c .if1 .taken) (refl, refl)
 
--- src/calls.rt:144:18
 read-requires : tie.Need-read-requires
 read-requires c κs = search needs
 
--- src/calls.rt:144:5
 reading-into-requires : tie.Need-reading-into-requires
 reading-into-requires c κs = c .before .before .if1 .left
 
--- src/calls.rt:137:1
 same-length : tie.Need-same-length
 same-length c = search needs
 
--- src/calls.rt:137:1
 returns-2 : tie.Need-returns-2
 returns-2 c = roomy _ _ _ _ (c .before .before .before .before .before .if1 .left) (record { reply = toldRead (c .before .before .before .before .read .result); answers = c .before .before .before .before .read .ensures; number-is = c .before .before .reading-into .ensures .0; words-are = c .before .before .reading-into .ensures .1 })
 

@@ -1,8 +1,8 @@
+-- `host::calls::tillbonnet_turn` meets its contract: by the kind. Assumes nothing.
 use Rattle.host.specs.Named.{kindNamed}
 use Rattle.store.specs.Promises.{told}
 use Rattle.host.proofs.Naming.{meant, unnamed}
-use mathlib.Core.Path.{_≡_, refl, sym, ap, _∙_}
-use native.Mathlib.Omega.{arith}
+use mathlib.Core.Path.{refl, sym, ap, _∙_}
 use borrow.Author.Needs.{needs}
 use Rattle.host.proofs.calls.tillbonnet_turn.Statement.{statement}
 use Rattle.host.proofs.calls.tillbonnet_turn.Tie as tie
@@ -12,36 +12,28 @@ use Rattle.host.proofs.named.kind_named.Reads as kind-named-reads
 use Rattle.host.proofs.words.number_of.Reads as number-of-reads
 use Rattle.partner.proofs.calls.turn.Reads as turn-reads
 
--- src/calls.rt:68:11
 kind-named-requires : tie.Need-kind-named-requires
 kind-named-requires c κs = search needs
 
--- src/calls.rt:69:26
 enum-known-d : tie.Need-enum-known-d
 enum-known-d c = search needs
 
--- src/calls.rt:69:42
 turn-requires : tie.Need-turn-requires
 turn-requires c κs = search needs
 
--- src/calls.rt:69:32
 number-of-requires : tie.Need-number-of-requires
 number-of-requires c κs = search needs
 
--- src/calls.rt:70:31
 enum-told : tie.Need-enum-told
 enum-told c = search needs
 
--- src/calls.rt:64:1
 same-length : tie.Need-same-length
 same-length c = search needs
 
--- src/calls.rt:64:1
 returns : tie.Need-returns
 unfolding kindNamed
 returns c = meant _ _ _ _ (sym (ap kindNamed (c .before .before .before .before .before .before .d .given .1)) ∙ c .before .before .before .before .before .before .before .before .kind-named .ensures) (record { reply = told (c .before .before .before .turn .result); meets = c .before .before .before .turn .ensures; number-is = c .number-of .ensures })
 
--- src/calls.rt:64:1
 returns-2 : tie.Need-returns-2
 unfolding kindNamed
 returns-2 c = unnamed _ _ _ (sym (ap kindNamed (c .enum-told .given .1)) ∙ c .before .before .kind-named .ensures) (refl, refl)

@@ -1,3 +1,4 @@
+-- `host::sizes::needed_words` meets its contract: by the number of an opening. Assumes nothing.
 use Rattle.host.proofs.Needing.{refused-need, too-many, few-events, need-of}
 use Rattle.store.proofs.SizeLaws.{few-planes, frame-fits, room-small}
 use Rattle.history.specs.Sizes.{formOf}
@@ -12,69 +13,53 @@ use Rattle.host.proofs.sizes.needed_words.Lts as lts
 use Rattle.store.proofs.header.history_room.Reads as history-room-reads
 use Rattle.store.proofs.opening.open_number.Reads as open-number-reads
 
--- src/sizes.rt:15:9
 returns : tie.Need-returns
 returns c = too-many (c .before .args .n) (c .before .args .events) (formOf (c .before .args .form)) (c .if1 .taken)
 
--- src/sizes.rt:17:40
 mul-open-number : tie.Need-mul-open-number
 mul-open-number c = search needs
 
--- src/sizes.rt:17:8
 open-number-requires : tie.Need-open-number-requires
 open-number-requires c κs = search needs
 
--- src/sizes.rt:18:9
 returns-2 : tie.Need-returns-2
 returns-2 c = refused-need (c .before .before .before .args .n) (c .before .before .before .args .events) (formOf (c .before .before .before .args .form)) _ (c .before .open-number .ensures) (c .if2 .taken)
 
--- src/sizes.rt:20:14
 add-l : tie.Need-add-l
 add-l c = search needs
 
--- src/sizes.rt:21:11
 mul-result : tie.Need-mul-result
 mul-result c = search needs
 
--- src/sizes.rt:21:20
 mul-result-2 : tie.Need-mul-result-2
 mul-result-2 c = search needs
 
--- src/sizes.rt:21:20
 add-result : tie.Need-add-result
 add-result c = search needs
 
--- src/sizes.rt:21:11
 mul-result-3 : tie.Need-mul-result-3
 mul-result-3 c = omega (arith, frame-fits (c .before .before .before .args .n) (c .before .before .if1 .left))
 
--- src/sizes.rt:21:38
 mul-result-4 : tie.Need-mul-result-4
 mul-result-4 c = search needs
 
--- src/sizes.rt:21:33
 mul-result-5 : tie.Need-mul-result-5
 mul-result-5 c = search needs
 
--- src/sizes.rt:21:11
 add-result-2 : tie.Need-add-result-2
 add-result-2 c = omega (arith, frame-fits (c .before .before .before .args .n) (c .before .before .if1 .left))
 
--- src/sizes.rt:21:5
 add-result-3 : tie.Need-add-result-3
 add-result-3 c = omega (arith, frame-fits (c .before .before .before .args .n) (c .before .before .if1 .left))
 
--- src/sizes.rt:21:48
 history-room-requires : tie.Need-history-room-requires
 unfolding words
 history-room-requires c κs = (c .before .before .if1 .left, few-planes (c .before .before .before .args .n) (c .before .before .if1 .left), few-events (c .before .before .before .args .n) (c .before .before .before .args .events) (formOf (c .before .before .before .args .form)) _ (c .before .open-number .ensures) (c .if2 .left))
 
--- src/sizes.rt:21:5
 add-result-4 : tie.Need-add-result-4
 unfolding words
 add-result-4 c = omega (arith, frame-fits (c .before .before .before .before .args .n) (c .before .before .before .if1 .left), c .history-room .ensures, room-small (formOf (c .before .before .before .before .args .form)) (c .before .before .before .before .args .n) (c .before .before .before .before .args .events) ((c .before .before .before .before .args .n + 63) / 64) (c .before .before .before .if1 .left) (few-events (c .before .before .before .before .args .n) (c .before .before .before .before .args .events) (formOf (c .before .before .before .before .args .form)) _ (c .before .before .open-number .ensures) (c .before .if2 .left)) (few-planes (c .before .before .before .before .args .n) (c .before .before .before .if1 .left)))
 
--- src/sizes.rt:11:1
 returns-3 : tie.Need-returns-3
 unfolding words
 returns-3 c = need-of (c .before .before .before .before .args .n) (c .before .before .before .before .args .events) (formOf (c .before .before .before .before .args .form)) _ (c .before .before .open-number .ensures) (c .before .if2 .left) _ (c .history-room .ensures)

@@ -1,17 +1,14 @@
+-- `host::words::bit_word` meets its contract: by the bit. Assumes nothing.
 use Rattle.host.specs.Host.{bit}
-use borrow.Author.Needs.{needs}
-use native.Mathlib.Omega.{arith}
 use Rattle.host.proofs.words.bit_word.Statement.{statement}
 use Rattle.host.proofs.words.bit_word.Tie as tie
 use Rattle.host.proofs.words.bit_word.Reads as reads
 use Rattle.host.proofs.words.bit_word.Lts as lts
 
--- src/words.rt:49:9
 returns : tie.Need-returns
 unfolding bit
 returns c = rw (c .if1 .taken)
 
--- src/words.rt:45:1
 returns-2 : tie.Need-returns-2
 unfolding bit
 returns-2 c = rw (c .if1 .left)

@@ -1,32 +1,26 @@
+-- `host::words::first_of` meets its contract: by the answer. Assumes nothing.
 use Rattle.host.proofs.Answering.{told-done, told-first, told-refused}
-use native.Mathlib.Omega.{arith}
 use borrow.Author.Needs.{needs}
 use Rattle.host.proofs.words.first_of.Statement.{statement}
 use Rattle.host.proofs.words.first_of.Tie as tie
 use Rattle.host.proofs.words.first_of.Reads as reads
 use Rattle.host.proofs.words.first_of.Lts as lts
 
--- src/words.rt:26:25
 enum-told : tie.Need-enum-told
 enum-told c = search needs
 
--- src/words.rt:27:23
 enum-known-a : tie.Need-enum-known-a
 enum-known-a c = search needs
 
--- src/words.rt:31:25
 enum-known-a-2 : tie.Need-enum-known-a-2
 enum-known-a-2 c = search needs
 
--- src/words.rt:21:1
 returns : tie.Need-returns
 returns c = told-done (c .before .before .args .a) (c .before .before .args .first .now) (c .enum-told .given .1)
 
--- src/words.rt:21:1
 returns-2 : tie.Need-returns-2
 returns-2 c = told-first (c .before .before .before .args .a) (c .before .before .before .args .first .now) _ (c .before .a .given .1)
 
--- src/words.rt:21:1
 returns-3 : tie.Need-returns-3
 returns-3 c = told-refused (c .before .before .before .args .a) (c .before .before .before .args .first .now) _ (c .before .a2 .given .1)
 

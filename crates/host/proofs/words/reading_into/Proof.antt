@@ -1,3 +1,4 @@
+-- `host::words::reading_into` meets its contract: by what was read. Assumes nothing.
 use lib.ListN.{length-set}
 use Rattle.host.proofs.Answering.{says-words, refused-read}
 use native.Mathlib.Omega.{arith}
@@ -9,47 +10,36 @@ use Rattle.host.proofs.words.reading_into.Lts as lts
 use Rattle.host.proofs.words.bit_word.Reads as bit-word-reads
 use Rattle.host.proofs.words.sign_word.Reads as sign-word-reads
 
--- src/words.rt:79:25
 enum-known-a : tie.Need-enum-known-a
 enum-known-a c = search needs
 
--- src/words.rt:80:23
 cast-says : tie.Need-cast-says
 cast-says c = search needs
 
--- src/words.rt:80:13
 slice-write-says : tie.Need-slice-write-says
 slice-write-says c = search needs
 
--- src/words.rt:81:23
 sign-word-requires : tie.Need-sign-word-requires
 sign-word-requires c κs = search needs
 
--- src/words.rt:81:13
 slice-write-says-2 : tie.Need-slice-write-says-2
 slice-write-says-2 c = simp length-set (omega arith)
 
--- src/words.rt:82:23
 bit-word-requires : tie.Need-bit-word-requires
 bit-word-requires c κs = search needs
 
--- src/words.rt:82:13
 slice-write-says-3 : tie.Need-slice-write-says-3
 slice-write-says-3 c = simp length-set (omega arith)
 
--- src/words.rt:85:26
 enum-known-a-2 : tie.Need-enum-known-a-2
 enum-known-a-2 c = search needs
 
--- src/words.rt:73:1
 same-length : tie.Need-same-length
 same-length c = search needs
 
--- src/words.rt:73:1
 returns : tie.Need-returns
 returns c = let v = c .before .before .before .a .given in says-words (c .before .before .before .before .before .before .args .a) (c .before .before .before .before .before .before .args .says .now) (v .0 .0) (v .0 .1 .0) (v .0 .1 .1 .0) _ _ (c .before .before .before .before .before .before .pre) (v .1) (record { sfits = c .before .before .known-told .given .1 .0 .1 }) (c .before .sign-word .ensures) (c .bit-word .ensures)
 
--- src/words.rt:73:1
 returns-2 : tie.Need-returns-2
 returns-2 c = refused-read (c .before .before .before .before .args .a) (c .before .before .before .before .args .says .now) _ (c .before .a2 .given .1)
 

@@ -1,16 +1,13 @@
+-- `host::words::sign_word` meets its contract: by the sign. Assumes nothing.
 use Rattle.host.proofs.Written.{plus, minus}
-use borrow.Author.Needs.{needs}
-use native.Mathlib.Omega.{arith}
 use Rattle.host.proofs.words.sign_word.Statement.{statement}
 use Rattle.host.proofs.words.sign_word.Tie as tie
 use Rattle.host.proofs.words.sign_word.Reads as reads
 use Rattle.host.proofs.words.sign_word.Lts as lts
 
--- src/words.rt:40:9
 returns : tie.Need-returns
 returns c = minus (c .before .args .sign) (c .before .fits .sign) (c .if1 .taken)
 
--- src/words.rt:36:1
 returns-2 : tie.Need-returns-2
 returns-2 c = plus (c .before .args .sign) (c .before .fits .sign) (c .if1 .left)
 

@@ -1,3 +1,4 @@
+-- `host::words::write` meets its contract: four words one after the other. Assumes nothing.
 use lib.ListN.{length-set}
 use Rattle.host.proofs.Written.{four}
 use mathlib.Core.Path.{refl}
@@ -8,27 +9,21 @@ use Rattle.host.proofs.words.write.Tie as tie
 use Rattle.host.proofs.words.write.Reads as reads
 use Rattle.host.proofs.words.write.Lts as lts
 
--- src/words.rt:94:5
 slice-write-says : tie.Need-slice-write-says
 slice-write-says c = search needs
 
--- src/words.rt:95:5
 slice-write-says-2 : tie.Need-slice-write-says-2
 slice-write-says-2 c = simp length-set (omega arith)
 
--- src/words.rt:96:5
 slice-write-says-3 : tie.Need-slice-write-says-3
 slice-write-says-3 c = simp length-set (omega arith)
 
--- src/words.rt:97:5
 slice-write-says-4 : tie.Need-slice-write-says-4
 slice-write-says-4 c = simp length-set (omega arith)
 
--- src/words.rt:89:1
 same-length : tie.Need-same-length
 same-length c = search needs
 
--- src/words.rt:89:1
 returns : tie.Need-returns
 returns c = (refl, four (c .args .says .now) _ _ _ _ (c .pre))
 

@@ -16,23 +16,23 @@ Inv-loop h base len sigs axes l events axis sig bit after start left rest end wa
 abbrev μ-loop : tie.MeasureT-loop
 μ-loop h base len sigs axes l events axis sig bit after start left rest end wanted this i₀ i = end - i
 
-add-first-after : tie.Need-add-first-after Inv-loop μ-loop
-add-first-after c = search needs
+add-first-past : tie.Need-add-first-past Inv-loop μ-loop
+add-first-past c = search needs
 
-mul-first-after : tie.Need-mul-first-after Inv-loop μ-loop
-mul-first-after c = search needs
+mul-first-past : tie.Need-mul-first-past Inv-loop μ-loop
+mul-first-past c = search needs
 
-sub-first-after : tie.Need-sub-first-after Inv-loop μ-loop
-sub-first-after c = search needs
+sub-first-past : tie.Need-sub-first-past Inv-loop μ-loop
+sub-first-past c = search needs
 
-part-first-after-start : tie.Need-part-first-after-start Inv-loop μ-loop
-part-first-after-start c = search needs
+part-first-past-start : tie.Need-part-first-past-start Inv-loop μ-loop
+part-first-past-start c = search needs
 
-part-first-after-end : tie.Need-part-first-after-end Inv-loop μ-loop
-part-first-after-end c = search needs
+part-first-past-end : tie.Need-part-first-past-end Inv-loop μ-loop
+part-first-past-end c = search needs
 
-first-after-requires : tie.Need-first-after-requires Inv-loop μ-loop
-first-after-requires c κs = search needs
+first-past-requires : tie.Need-first-past-requires Inv-loop μ-loop
+first-past-requires c κs = search needs
 
 cast-left : tie.Need-cast-left Inv-loop μ-loop
 cast-left c = search needs
@@ -57,7 +57,7 @@ loop-holds c =
     let f = c .before .before in
     let s = c .before .before .before .before .before .before in
     let a = s .args in
-    scanning-start (a .h .now) (a .base) (a .len) (a .sigs) (a .axes) (a .l) (a .events) (a .axis .now) (a .sig) (a .bit) (a .after) (f .first-after .result) (a .budget .0) (c .if1 .end) (s .pre .0) (f .first-after .ensures .0) (f .first-after .ensures .1)
+    scanning-start (a .h .now) (a .base) (a .len) (a .sigs) (a .axes) (a .l) (a .events) (a .axis .now) (a .sig) (a .bit) (a .after) (f .first-past .result) (a .budget .0) (c .if1 .end) (s .pre .0) (f .first-past .ensures .0) (f .first-past .ensures .1)
     (⊎-elim (λ w. inl (w .0 .taken, w .1)) (λ w. inr (w .0 .left, w .1)) (c .if1 .came))
 
 add-meets : tie.Need-add-meets Inv-loop μ-loop
@@ -88,7 +88,7 @@ loop-again c =
     let f = c .before .before .before .before .before .before .before .before in
     let s = c .before .before .before .before .before .before .before .before .before .before .before .before in
     let a = s .args in
-    scanning-more (a .h .now) (a .base) (a .len) (a .sigs) (a .axes) (a .l) (a .events) (a .axis .now) (a .sig) (a .bit) (a .after) (f .first-after .result) (a .budget .0) (c .before .before .before .before .before .before .if1 .end) (at .loop .i) (at .loop .inv) (s .pre .4) (c .before .before .before .before .loop-test .taken) (m .meets .result) _ _ refl (bit-is 64 (a .bit) (s .pre .4))
+    scanning-more (a .h .now) (a .base) (a .len) (a .sigs) (a .axes) (a .l) (a .events) (a .axis .now) (a .sig) (a .bit) (a .after) (f .first-past .result) (a .budget .0) (c .before .before .before .before .before .before .if1 .end) (at .loop .i) (at .loop .inv) (s .pre .4) (c .before .before .before .before .loop-test .taken) (m .meets .result) _ _ refl (bit-is 64 (a .bit) (s .pre .4))
     (m .meets .ensures) (c .enum-told .given .1)
 
 enum-told-2 : tie.Need-enum-told-2 Inv-loop μ-loop
@@ -113,7 +113,7 @@ returns c =
     let f = c .before .before .before .before .before .before .before .before in
     let s = c .before .before .before .before .before .before .before .before .before .before .before .before in
     let a = s .args in
-    scan-hit (a .h .now) (a .base) (a .len) (a .sigs) (a .axes) (a .l) (a .events) (a .axis .now) (a .sig) (a .bit) (a .after) (f .first-after .result) (a .budget .0) (c .before .before .before .before .before .before .if1 .end) (at .loop .i) (at .loop .inv) (s .pre .4) (c .before .before .before .before .loop-test .taken) (m .meets .result) _ _ refl (bit-is 64 (a .bit) (s .pre .4))
+    scan-hit (a .h .now) (a .base) (a .len) (a .sigs) (a .axes) (a .l) (a .events) (a .axis .now) (a .sig) (a .bit) (a .after) (f .first-past .result) (a .budget .0) (c .before .before .before .before .before .before .if1 .end) (at .loop .i) (at .loop .inv) (s .pre .4) (c .before .before .before .before .loop-test .taken) (m .meets .result) _ _ refl (bit-is 64 (a .bit) (s .pre .4))
     (m .meets .ensures) (c .enum-told2 .given .1)
 
 enum-told-3 : tie.Need-enum-told-3 Inv-loop μ-loop
@@ -126,7 +126,7 @@ returns-2 c =
     let f = c .before .before .before .before .before .before .before .before in
     let s = c .before .before .before .before .before .before .before .before .before .before .before .before in
     let a = s .args in
-    scan-bad (a .h .now) (a .base) (a .len) (a .sigs) (a .axes) (a .l) (a .events) (a .axis .now) (a .sig) (a .bit) (a .after) (f .first-after .result) (a .budget .0) (c .before .before .before .before .before .before .if1 .end) (at .loop .i) (at .loop .inv) (s .pre .4) (c .before .before .before .before .loop-test .taken) (m .meets .result) _ _ refl (bit-is 64 (a .bit) (s .pre .4))
+    scan-bad (a .h .now) (a .base) (a .len) (a .sigs) (a .axes) (a .l) (a .events) (a .axis .now) (a .sig) (a .bit) (a .after) (f .first-past .result) (a .budget .0) (c .before .before .before .before .before .before .if1 .end) (at .loop .i) (at .loop .inv) (s .pre .4) (c .before .before .before .before .loop-test .taken) (m .meets .result) _ _ refl (bit-is 64 (a .bit) (s .pre .4))
     (m .meets .ensures) (c .enum-told3 .given .1)
 
 returns-3 : tie.Need-returns-3 Inv-loop μ-loop
@@ -135,7 +135,7 @@ returns-3 c =
     let f = c .before .before .before .before .before in
     let s = c .before .before .before .before .before .before .before .before .before in
     let a = s .args in
-    λ st ok is one. scan-out (a .h .now) (a .base) (a .len) (a .sigs) (a .axes) (a .l) (a .events) (a .axis .now) (a .sig) (a .bit) (a .after) (f .first-after .result) (a .budget .0) (c .before .before .before .if1 .end) (at .loop .i) (at .loop .inv) (c .before .loop-test .left) st ok is one (c .if2 .taken)
+    λ st ok is one. scan-out (a .h .now) (a .base) (a .len) (a .sigs) (a .axes) (a .l) (a .events) (a .axis .now) (a .sig) (a .bit) (a .after) (f .first-past .result) (a .budget .0) (c .before .before .before .if1 .end) (at .loop .i) (at .loop .inv) (c .before .loop-test .left) st ok is one (c .if2 .taken)
 
 cast-t44 : tie.Need-cast-t44 Inv-loop μ-loop
 cast-t44 c = search needs
@@ -146,7 +146,7 @@ returns-4 c =
     let f = c .before .before .before .before .before in
     let s = c .before .before .before .before .before .before .before .before .before in
     let a = s .args in
-    λ st ok is one. scan-clear (a .h .now) (a .base) (a .len) (a .sigs) (a .axes) (a .l) (a .events) (a .axis .now) (a .sig) (a .bit) (a .after) (f .first-after .result) (a .budget .0) (c .before .before .before .if1 .end) (at .loop .i) (at .loop .inv) (c .before .loop-test .left) st ok is one (c .if2 .left)
+    λ st ok is one. scan-clear (a .h .now) (a .base) (a .len) (a .sigs) (a .axes) (a .l) (a .events) (a .axis .now) (a .sig) (a .bit) (a .after) (f .first-past .result) (a .budget .0) (c .before .before .before .if1 .end) (at .loop .i) (at .loop .inv) (c .before .loop-test .left) st ok is one (c .if2 .left)
 
 pub scan-spec : {M : Type 1} → statement M
 scan-spec =
@@ -154,12 +154,12 @@ scan-spec =
     (tie.spec
     Inv-loop
     μ-loop
-    add-first-after
-    mul-first-after
-    sub-first-after
-    part-first-after-start
-    part-first-after-end
-    first-after-requires
+    add-first-past
+    mul-first-past
+    sub-first-past
+    part-first-past-start
+    part-first-past-end
+    first-past-requires
     cast-left
     sub-rest
     add-end

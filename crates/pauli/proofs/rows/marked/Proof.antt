@@ -1,7 +1,7 @@
 -- `pauli::rows::marked` meets its contract: what is found so far, with what is left of the word, is the whole. The measure is what is left.
 -- Assumes nothing.
-use mathlib.Core.Path.{_≡_, refl, sym, ap, _∙_}
-use Prim.Native.Nat.{ℕ, suc, _<_, _+_, _*_, _-_, _/_, _^_}
+use mathlib.Core.Path.{_≡_, refl, sym, ap, _∙_, subst⁻¹}
+use Prim.Native.Nat.{ℕ, suc, _<_, _+_, _*_, _-_, _^_}
 use native.Mathlib.Nat.{one-mul, div-lt-iff-lt-mul}
 use native.Mathlib.Omega.{arith}
 use lib.Bits.{bitAnd, bitOr, and-le-l}
@@ -39,33 +39,33 @@ cast-q c = omega (arith, trailing-le 64 (c .before .loop .v))
 add-q : tie.Need-add-q Inv-loop μ-loop
 add-q c = omega (arith, trailing-le 64 (c .before .loop .v))
 
-div-sum : tie.Need-div-sum Inv-loop μ-loop
-div-sum c = omega arith
+block-of-requires : tie.Need-block-of-requires Inv-loop μ-loop
+block-of-requires c κs = search needs
 
 shl-sum : tie.Need-shl-sum Inv-loop μ-loop
 shl-sum c =
-    let a = c .before .before .args in
+    let a = c .before .before .before .args in
     let pos : 0 < a .l = omega arith in
-    div-lt-iff-lt-mul pos .1 (omega (arith, low c .3))
+    subst⁻¹ (λ (n : ℕ). n < 64) (c .block-of .ensures) (div-lt-iff-lt-mul pos .1 (omega (arith, low (c .before) .3)))
 
 sub-v : tie.Need-sub-v Inv-loop μ-loop
 sub-v c = search needs
 
 loop-less : tie.Need-loop-less Inv-loop μ-loop
 loop-less c =
-    let r = low c in
-    omega (arith, r .1, r .2, pow-pos (trailingZeros 64 (c .before .loop .v)))
+    let r = low (c .before) in
+    omega (arith, r .1, r .2, pow-pos (trailingZeros 64 (c .before .before .loop .v)))
 
 loop-again : tie.Need-loop-again Inv-loop μ-loop
 loop-again c =
-    let at = c .before in
+    let at = c .before .before in
     let a = at .before .args in
     let v = at .loop .v in
-    let q : ℕ = (64 * a .j + trailingZeros 64 v) / a .l in
+    let q = c .block-of .result in
     let small : q < 64 = shl-sum c in (
       omega (arith, and-le-l v (v - 1), at .loop .inv .0),
       λ u.
-          ap (λ (n : ℕ). bitOr (bitOr (at .loop .sum) n) (blocks (a .l) (left u (a .j) (bitAnd v (v - 1))) 64)) (shl-exact 1 q 64 (lit< tt) (omega arith) ∙ one-mul (2 ^ q))
+          ap (λ (n : ℕ). bitOr (bitOr (at .loop .sum) n) (blocks (a .l) (left u (a .j) (bitAnd v (v - 1))) 64)) (shl-exact 1 q 64 (lit< tt) (omega arith) ∙ one-mul (2 ^ q) ∙ ap (λ (k : ℕ). 2 ^ k) (c .block-of .ensures))
           ∙ sym (blocks-step (a .l) u (a .j) v (at .loop .sum) (omega arith) (omega arith) (at .loop .inv .0)) ∙ at .loop .inv .1 u,
     )
 
@@ -85,7 +85,7 @@ marked-spec =
     mul-q
     cast-q
     add-q
-    div-sum
+    block-of-requires
     shl-sum
     sub-v
     loop-less

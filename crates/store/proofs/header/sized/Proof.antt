@@ -3,7 +3,8 @@ use mathlib.Core.Path.{refl}
 use Prim.Native.Nat.{_+_, _*_, _≤_}
 use lib.ListN.{getD}
 use Rattle.history.specs.Sizes.{formOf}
-use Rattle.store.proofs.SizeLaws.{no-event, many-events, many-steps, history-missing, framing-planes, fit-of, frame-small, room-small}
+use Rattle.store.specs.Checks.{sizes}
+use Rattle.store.proofs.SizeLaws.{no-event, many-events, many-steps, history-missing, framing-planes, fit-of, sound-of, frame-small, room-small}
 use native.Mathlib.Omega.{arith}
 use borrow.Author.Needs.{needs}
 use Rattle.store.proofs.header.sized.Statement.{statement}
@@ -72,14 +73,12 @@ returns-4 c =
     let a = s .args in
     (s .pre .0 .enough, λ m h. history-missing (a .s .now) m h (a .n) (a .l) (getD (a .s .now) 3 0) (formOf (a .form)) (s .pre .0) (s .pre .1) refl (omega (arith, c .if4 .taken, c .before .history-room .ensures)))
 
-cast-steps : tie.Need-cast-steps
-cast-steps c = search needs
-
 returns-5 : tie.Need-returns-5
 returns-5 c =
     let s = c .before .before .before .before .before .before .before .before .before in
     let a = s .args in
-    fit-of (a .s .now) _ (s .pre .0) (s .pre .1) (s .pre .2) refl refl (c .before .before .before .before .if1 .left) (c .before .before .before .if2 .left) (c .before .before .if3 .left) (c .before .history-room .result) (c .before .history-room .ensures) refl refl (c .if4 .left)
+    sound-of (a .s .now) (sizes (a .n) (a .l) (a .form) (getD (a .s .now) 3 0) (getD (a .s .now) 4 0) _ _)
+    (fit-of (a .s .now) _ (s .pre .0) (s .pre .1) (s .pre .2) refl refl (c .before .before .before .before .if1 .left) (c .before .before .before .if2 .left) (c .before .before .if3 .left) (c .before .history-room .result) (c .before .history-room .ensures) refl refl (c .if4 .left))
 
 pub sized-spec : {M : Type 1} → statement M
 sized-spec =
@@ -102,5 +101,4 @@ sized-spec =
     history-room-requires
     add-end
     returns-4
-    cast-steps
     returns-5)

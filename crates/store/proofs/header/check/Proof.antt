@@ -1,12 +1,12 @@
--- `store::header::all_sizes` meets its contract: what `frame_sizes` and `sized` told, and the form is one of two. Assumes nothing.
+-- `store::header::check` meets its contract: what `frame_sizes` and `sized` told, and the form is one of two. Assumes nothing.
 use Rattle.history.specs.Sizes.{formOf}
 use Rattle.store.specs.Stores.{formCode}
 use Rattle.store.specs.Checks.{Framing}
 use Rattle.store.proofs.SizeLaws.{told-short, told-bad, told-ready, no-form, too-wide, sliced-narrow}
 use native.Mathlib.Omega.{arith}
 use borrow.Author.Needs.{needs}
-use Rattle.store.proofs.header.all_sizes.Statement.{statement}
-use Rattle.store.proofs.header.all_sizes.Tie as tie
+use Rattle.store.proofs.header.check.Statement.{statement}
+use Rattle.store.proofs.header.check.Tie as tie
 
 -- what `frame_sizes` told
 framing : (c : tie.After-known-told) → let n = c .before .n .given .0 in Framing (n .0) (n .1 .0) (c .before .before .before .before .before .args .s .now)
@@ -63,8 +63,8 @@ returns-5 c =
 returns-6 : tie.Need-returns-6
 returns-6 c = search needs
 
-pub all-sizes-spec : {M : Type 1} → statement M
-all-sizes-spec =
+pub check-spec : {M : Type 1} → statement M
+check-spec =
     tie.close
     (tie.spec
     frame-sizes-requires
