@@ -163,12 +163,14 @@ impl Ours {
 
     pub fn run(&mut self, items: &[Mine]) -> u64 {
         let (p, len) = self.lent();
+        // What belongs to a rotation (its gate, its angle) is the host's to keep, by the event's number.
+        let mut gates = vec![0; self.room];
         let (mut sum, mut bad) = (0, 0);
         for (idx, item) in items.iter().enumerate() {
             match *item {
                 Mine::Call(call) => bad |= unsafe { step(p, len, &call) },
                 Mine::Rotation { kind, q, angled } => {
-                    let (seen, answer) = unsafe { rotation(p, len, idx, kind, q as usize, angled) };
+                    let (seen, answer) = unsafe { rotation(p, len, &mut gates, idx, kind, q as usize, angled) };
                     sum = mix(sum, seen);
                     bad |= answer;
                 }
@@ -228,22 +230,23 @@ unsafe fn step(p: *mut u64, len: usize, call: &Coded) -> u32 {
     }
 }
 
-/// speed.rs's `rotation`; the partner's tag is asked for, as the original has it at hand.
+/// speed.rs's `rotation`. The partner's gate is in the host's own table, as the original has it in its events.
 #[inline(always)]
-unsafe fn rotation(p: *mut u64, len: usize, idx: usize, kind: u64, q: usize, angled: Angled) -> (u64, u32) {
-    let (mut says, mut read, mut first, mut seen) = ([0; 4], [0; 3], 0, 0);
+unsafe fn rotation(p: *mut u64, len: usize, gates: &mut [u32], idx: usize, kind: u64, q: usize, angled: Angled) -> (u64, u32) {
+    let (mut says, mut first, mut seen) = ([0; 4], 0, 0);
     unsafe {
         let mut bad = tillbonnet_look(p, len, kind, q, says.as_mut_ptr(), 4);
         if says[0] == 1 {
             let id = says[1] as usize;
-            bad |= tillbonnet_read(p, len, id, read.as_mut_ptr(), 3);
-            seen = mix(found(id, says[2] as i8), read[0] as u64);
+            seen = mix(found(id, says[2] as i8), u64::from(gates[id]));
             bad |= tillbonnet_kill(p, len, id);
             if angled == Angled::T {
                 let k = if says[2] == 1 { 2 } else { 0 };
                 return (seen, bad | tillbonnet_turn(p, len, kind, k, q));
             }
         }
-        (seen, bad | tillbonnet_record(p, len, kind, q, idx as u32, &mut first))
+        bad |= tillbonnet_record(p, len, kind, q, idx as u32, &mut first);
+        gates[first] = idx as u32;
+        (seen, bad)
     }
 }
