@@ -4,6 +4,7 @@
 # The archive is ../target/staticlib/libhost.a (rt staticlib host), or that of the folder TILLBONNET_LIB. CORE: the core to run on (default 1).
 set -eu
 cd "$(dirname "$0")"
+if [ ! -e "${TILLBONNET_LIB:-../target/staticlib}/libhost.a" ]; then (cd .. && rt staticlib host > /dev/null); fi
 out=$(mktemp -d)
 trap 'rm -rf "$out"' EXIT
 cargo build --release --offline --quiet

@@ -4,8 +4,9 @@
  * anything between calls. The store is yours: an array of 64-bit words, lent with each call with its length. Which words a call changes is in
  * the contracts; a refusal (1 to 8, 10) changes none.
  *
- * What you owe: a pointer with a length points to that many words that nobody else changes during the call; `first`, `says` and `labels` lie
- * outside the store. Two stores can be used by two threads; of one store, several looks and reads may run at a time.
+ * What you owe: a pointer with a length points to that many words that nobody else changes during the call (not NULL, even where the length is
+ * 0); `first`, `says` and `labels` lie outside the store. Two stores can be used by two threads; of one store, several looks and reads may run at
+ * a time.
  *
  * Build: rt staticlib host, then link target/staticlib/libhost.a (x86-64; it needs memset and the like of the C library and nothing else).
  */
@@ -31,7 +32,7 @@ enum tillbonnet_answer {
     TILLBONNET_NO_EVENT = 7,        /* no such event, or a blocker; for a kill also a dead one */
     TILLBONNET_BAD_TURN = 8,        /* a turn other than 0, 2, 4, 6 */
     TILLBONNET_NO_STORE = 9,        /* the words are none that these calls have left: open the store again */
-    TILLBONNET_NO_SUCH_NUMBER = 10  /* the number names no gate or kind */
+    TILLBONNET_NO_SUCH_NUMBER = 10  /* the number names no gate or kind; told before the store is looked at */
 };
 
 enum tillbonnet_form { TILLBONNET_SCALAR = 0, TILLBONNET_SLICED = 1 };
@@ -75,7 +76,7 @@ uint32_t tillbonnet_gate(uint64_t *store, size_t words, uint64_t gate, size_t a,
 /* Applies the Clifford gates of a turn by k eighths of a full turn (k = 0, 2, 4, 6). Answers 0, 3, 4, 8, 9 or 10. */
 uint32_t tillbonnet_turn(uint64_t *store, size_t words, uint64_t kind, uint64_t k, size_t q);
 
-/* ---- events: the number of the first event recorded goes to *first */
+/* ---- events: the number of the first event recorded goes to *first, which any answer but 0 leaves as it was */
 
 /* Records a rotation about qubit q as it stands now. Answers 0, 3, 4, 6, 9 or 10. */
 uint32_t tillbonnet_record(uint64_t *store, size_t words, uint64_t kind, size_t q, uint32_t tag, size_t *first);

@@ -1,8 +1,8 @@
 //! The partner search of phase folding, proved in Rattle (../crates/host), as a Rust value that owns its store.
 //!
-//! A [`Store`] hands its own words to every call and nobody else can touch them, so 3 (a store that is too short) and 9 (words that are
-//! no store's) cannot come back, and gates, kinds and forms are named by enums, so 10 cannot either. What is left of the
-//! refusals is [`Refusal`]. `tests/` holds the wrapper against the library.
+//! A [`Store`] hands its own words to every call and nobody else can touch them, so a store that is too short (3) and words that are
+//! no store's (9) cannot come back, and gates, kinds and forms are named by enums, so 10 cannot either. What is left of the
+//! refusals is [`Refusal`]. ../compare/tests/wrapper.rs holds the wrapper against the original.
 
 pub mod raw;
 
@@ -29,6 +29,23 @@ pub enum Refusal {
     Turn,
 }
 
+impl std::fmt::Display for Refusal {
+    fn fmt(&self, f: &mut std::fmt::Formatter<'_>) -> std::fmt::Result {
+        f.write_str(match self {
+            Self::Shape => "qubits, steps or form out of range",
+            Self::Events => "room for no events or for too many",
+            Self::Labels => "labels that are not four words a qubit",
+            Self::NoQubit => "no such qubit",
+            Self::SameQubit => "a qubit named twice",
+            Self::NoRoom => "no room for the events",
+            Self::NoEvent => "no such rotation",
+            Self::Turn => "a turn other than 0, 2, 4 or 6 eighths",
+        })
+    }
+}
+
+impl std::error::Error for Refusal {}
+
 #[derive(Clone, Copy, Debug, PartialEq, Eq)]
 pub enum Form {
     Scalar,
@@ -44,7 +61,7 @@ pub enum Kind {
     P,
 }
 
-/// Of a gate on two qubits the first is the control.
+/// Of `Cnot`, `Cz` and `Cy` the first qubit is the control.
 #[derive(Clone, Copy, Debug, PartialEq, Eq)]
 pub enum Gate {
     H(usize),
@@ -129,13 +146,14 @@ fn told(number: u32) -> Result<(), Refusal> {
         0 => Ok(()),
         1 => Err(Refusal::Shape),
         2 => Err(Refusal::Events),
+        // Only an opening gives 3 here, and its store has the words that it needs: it is the labels.
         3 => Err(Refusal::Labels),
         4 => Err(Refusal::NoQubit),
         5 => Err(Refusal::SameQubit),
         6 => Err(Refusal::NoRoom),
         7 => Err(Refusal::NoEvent),
         8 => Err(Refusal::Turn),
-        // 3 after an opening, 9 and 10 cannot come: the contracts of crates/host, and the words are this store's alone.
+        // 9 and 10 cannot come: the contracts of crates/host, and the words are this store's alone.
         _ => unreachable!("a store of our own answered {number}"),
     }
 }
@@ -233,11 +251,6 @@ impl Store {
             2 => Sight::Blocked { steps },
             _ => Sight::Out { steps },
         })
-    }
-
-    /// The words as they stand, for a reader that knows docs/STORE.md. Those that no state relies on may never have been written.
-    pub fn words(&self) -> &[MaybeUninit<u64>] {
-        &self.words
     }
 
     /// The words to write to, and how many.

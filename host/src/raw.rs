@@ -1,6 +1,7 @@
 //! The functions of ../../include/tillbonnet.h as they are. `Store` is the way to call them; the comparison and the benchmark use these.
 //!
-//! Each asks only that a pointer with a length points to that many words, and `first` and `says` to words outside the store.
+//! Each asks only that a pointer with a length points to that many words, which nobody else changes during the call, and that `labels`, `first` and
+//! `says` are words outside the store.
 
 unsafe extern "C" {
     pub safe fn tillbonnet_need(n: usize, events: usize, form: u64) -> usize;
