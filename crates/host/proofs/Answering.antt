@@ -1,7 +1,7 @@
 -- What is given back and written of each answer. Assumes nothing.
-use mathlib.Core.Path.{_≡_, refl, sym, ap, _∙_, subst}
+use mathlib.Core.Path.{_≡_, sym, ap, _∙_}
 use mathlib.Core.Bool.{Bool}
-use mathlib.Core.List.{List, [], _∷_}
+use mathlib.Core.List.{List, _∷_}
 use Prim.Native.Nat.{ℕ, _≤_}
 use mir.Syntax.{w8}
 use mir.Val.{SFits}
@@ -14,9 +14,8 @@ use Rattle.store.specs.declared.answers.Reading.{Reading}
 use Rattle.store.specs.declared.answers.Reading.the-variants as reading
 use Rattle.store.specs.declared.answers.Sight.{Sight}
 use Rattle.store.specs.declared.answers.Sight.the-variants as sight
-use Rattle.model.specs.Calls.{Call}
-use Rattle.store.specs.Promises.{number, told, toldRead, toldLook, Answers}
-use Rattle.host.specs.Host.{signWord, bit, firstOf, wordsOf, readingWords, lookWords, Asked}
+use Rattle.store.specs.Promises.{number, told, toldRead, toldLook}
+use Rattle.host.specs.Host.{signWord, bit, firstOf, wordsOf, readingWords, lookWords}
 use Rattle.host.proofs.Written.{three, whole}
 
 -- ---- a number alone, and the first event recorded

@@ -1,5 +1,4 @@
 -- The code's enums as what is meant. Assumes nothing.
-use Prim.Native.Nat.{ℕ}
 use Rattle.model.specs.Frame as model
 use Rattle.model.specs.Events as events
 use Rattle.frame.specs.Axes.{kindOf}

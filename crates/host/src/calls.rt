@@ -1,5 +1,6 @@
-// The calls of `partner` as C sees them: a slice is a pointer and a length, a reference a pointer (include/tillbonnet.h). Each gives back 01's number, 0 for done,
-// or 10 for a number that names no gate or kind; what else a call says goes to the last argument, which a refusal leaves as it was.
+// The calls of `partner` as C sees them: a slice is a pointer and a length, a reference a pointer (include/tillbonnet.h). Each gives back 01's
+// number, 0 for done, or 10 for a number that names no gate or kind; what else a call says goes to the last argument, which any other answer
+// leaves as it was.
 use super::named::NamedForm;
 use super::named::NamedGate;
 use super::named::NamedKind;

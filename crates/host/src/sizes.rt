@@ -11,6 +11,7 @@ ghost use Rattle.host.specs.Host.{needed};
 pub fn needed_words(n: usize, events: usize, form: Form) -> usize
     ensures { λ r. ⌜ r ≡ needed n events (formOf form) ⌝ }
 {
+    // No opening accepts more qubits, and 4 n stays in its word.
     if 23168 < n {
         return 0;
     }

@@ -15,6 +15,7 @@ use store::header::Sizes;
 use store::header::check;
 use store::header::sizes_of;
 ghost use mathlib.Core.Path.{_≡_};
+ghost use mathlib.Core.List.{List};
 ghost use Prim.Native.Nat.{ℕ, _+_, _*_, _%_, _≤_, _<_};
 ghost use lib.ListN.{length};
 ghost use lib.IntN.{_*ℤ_};
@@ -25,14 +26,14 @@ ghost use Rattle.model.specs.Search.{look, found};
 ghost use Rattle.model.specs.Demands.{IsSign, HasSign};
 ghost use Rattle.model.specs.Calls.{looked, callLook};
 ghost use Rattle.frame.specs.Places.{IsRow};
-ghost use Rattle.frame.specs.Axes.{kindOf};
+ghost use Rattle.frame.specs.Axes.{kindOf, axisOf};
 ghost use Rattle.store.specs.Stores.{Held};
 ghost use Rattle.store.specs.Checks.{Fit, sizes};
 ghost use Rattle.store.specs.Promises.{number, toldLook, Answers};
 ghost use Rattle.seeking.specs.Sights.{SignSeen, sightOf};
 
 // The partner `id` as the answer of a look: the relative sign is the product of the sign it keeps and the row's own. Only here is the row's sign
-// worked out, which takes a walk over its words. On words that hold no state `kept` can be any number, so nothing is multiplied.
+// worked out, which takes a walk over its words. That `kept` is a sign is known of words that hold a state, so it is compared and not multiplied.
 fn relative(id: usize, kept: i8, steps: u32, row: &[u64]) -> Sight
     requires { ⌜ length (now row) % 2 ≡ 1 ⌝ }
     ensures few { λ r. ⌜ number (toldLook r) ≤ 9 ⌝ }
@@ -170,60 +171,45 @@ fn wide_y(s: &[u64], z: Sizes, q: usize) -> Sight
     )
 }
 
+// The look for the axis x or z, whose row is read in place.
+fn in_place(s: &[u64], z: Sizes, of_x: bool, kind: Kind, q: usize) -> Sight
+    requires { ⌜ Fit z (now s) × (q < z .n) ⌝ }
+    ensures few { λ r. ⌜ number (toldLook r) ≤ 9 ⌝ }
+    ensures says { λ r. ⌜ ((m : State) → Held m (now (s .entry)) → ((row : List ℕ) → IsRow (z .l) row 0 (axisOf «of_x» (m .frame) q) → IsRow (z .l) row 0 (axis paulis (kindOf kind) q (m .frame))) → toldLook r ≡ looked (look (kindOf kind) q m)) ⌝ }
+{
+    let at = z.at;
+    let form = z.form;
+    sought(
+        s,
+        z.n,
+        z.l,
+        form,
+        z.cap,
+        z.allowance,
+        z.at,
+        z.end,
+        kind,
+        q,
+        axis_row(&s[14..at], z.n, z.l, of_x, q),
+    )
+}
+
 // The look, by its kind.
 fn sought_kind(s: &[u64], z: Sizes, kind: Kind, q: usize) -> Sight
     requires { ⌜ Fit z (now s) × (q < z .n) ⌝ }
     ensures few { λ r. ⌜ number (toldLook r) ≤ 9 ⌝ }
     ensures says { λ r. ⌜ ((m : State) → Held m (now (s .entry)) → toldLook r ≡ looked (look (kindOf kind) q m)) ⌝ }
 {
-    let at = z.at;
-    let form = z.form;
     match kind {
-        Kind::X => sought(
-            s,
-            z.n,
-            z.l,
-            form,
-            z.cap,
-            z.allowance,
-            z.at,
-            z.end,
-            kind,
-            q,
-            axis_row(&s[14..at], z.n, z.l, true, q),
-        ),
+        Kind::X => in_place(s, z, true, kind, q),
         Kind::Y => {
             if z.l <= 3 {
                 return narrow_y(s, z, q);
             }
             wide_y(s, z, q)
         }
-        Kind::Z => sought(
-            s,
-            z.n,
-            z.l,
-            form,
-            z.cap,
-            z.allowance,
-            z.at,
-            z.end,
-            kind,
-            q,
-            axis_row(&s[14..at], z.n, z.l, false, q),
-        ),
-        Kind::P => sought(
-            s,
-            z.n,
-            z.l,
-            form,
-            z.cap,
-            z.allowance,
-            z.at,
-            z.end,
-            kind,
-            q,
-            axis_row(&s[14..at], z.n, z.l, false, q),
-        ),
+        Kind::Z => in_place(s, z, false, kind, q),
+        Kind::P => in_place(s, z, false, kind, q),
     }
 }
 

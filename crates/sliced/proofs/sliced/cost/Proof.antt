@@ -1,5 +1,4 @@
 -- `sliced::sliced::cost` meets its contract: a word of ones has 64. Assumes nothing.
-use mathlib.Core.Path.{refl}
 use borrow.Author.Needs.{needs}
 use lib.Count.{ones}
 use Rattle.model.specs.Pauli.{count, countIn}
