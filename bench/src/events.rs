@@ -24,7 +24,7 @@ fn framed(n: usize, sliced: bool, dense: bool, rng: &mut Rng) -> (Pair, Vec<Gate
 }
 
 pub fn records<'a>(n: usize, sliced: bool, dense: bool) -> Case<'a> {
-    let mut rng = Rng(29);
+    let mut rng = Rng::new(29);
     let (p, gates, words) = framed(n, sliced, dense, &mut rng);
     let all: Vec<_> = (0..EVENTS).map(|_| (Kind::ALL[rng.below(3)], rng.below(n) as u32)).collect();
     let mine: Vec<_> = all.iter().map(|&(k, q)| (number(k), q)).collect();
@@ -49,7 +49,7 @@ pub fn records<'a>(n: usize, sliced: bool, dense: bool) -> Case<'a> {
 
 /// The blockers of measure, reset or ccx until the room is full.
 pub fn blockers<'a>(what: &'static str, n: usize, sliced: bool, dense: bool) -> Case<'a> {
-    let mut rng = Rng(31);
+    let mut rng = Rng::new(31);
     let (p, gates, words) = framed(n, sliced, dense, &mut rng);
     let each = match what {
         "measure" => 1,
@@ -97,7 +97,7 @@ pub enum Order {
 
 /// All of 12,000 rotations of distinct axes killed, lists rebuilt and compacted on the way.
 pub fn kills<'a>(n: usize, sliced: bool, weight: usize, order: Order) -> Case<'a> {
-    let mut rng = Rng(37);
+    let mut rng = Rng::new(37);
     let labels = rng.labels(n, false);
     let words = label_words(&labels);
     let mut p = Pair { ours: Ours::open(&words, sliced, EVENTS, 1 << 20, Words::Zeroed), theirs: Speed::open(&labels, sliced, 1 << 20) };

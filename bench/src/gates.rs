@@ -30,7 +30,7 @@ pub fn gate(kind: &str, n: usize, rng: &mut Rng) -> Gate {
 }
 
 pub fn case<'a>(kind: &'static str, n: usize) -> Case<'a> {
-    let mut rng = Rng(n as u64);
+    let mut rng = Rng::new(n as u64);
     let labels = rng.labels(n, false);
     let theirs: Vec<Gate> = (0..4096).map(|_| gate(kind, n, &mut rng)).collect();
     let ours: Vec<_> = theirs.iter().map(coded).collect();

@@ -47,7 +47,7 @@ pub enum Place {
 
 /// Events on `weight` qubits that commute with the axis asked for, which is on `probe` qubits, but for one if it is blocked.
 pub fn pair(n: usize, sliced: bool, weight: usize, probe: usize, place: Place, zero: bool) -> (Pair, u32) {
-    let mut rng = Rng(17);
+    let mut rng = Rng::new(17);
     let mut p = Pair::open(n, sliced, zero, &mut rng);
     let asked = axis(&mut rng, n, probe);
     let (at, block) = match place {
@@ -84,7 +84,7 @@ pub fn one<'a>(n: usize, sliced: bool, weight: usize, probe: usize, place: Place
 
 /// Every axis of a scrambled or an almost fresh frame, none of which was recorded.
 pub fn absent<'a>(n: usize, sliced: bool, dense: bool, zero: bool) -> Case<'a> {
-    let mut rng = Rng(23);
+    let mut rng = Rng::new(23);
     let mut p = Pair::open(n, sliced, zero, &mut rng);
     for _ in 0..EVENTS {
         let a = axis(&mut rng, n, 5);

@@ -1,14 +1,16 @@
-//! Numbers drawn from a fixed seed (splitmix64), so that every run has the same inputs.
+//! Numbers drawn from a fixed seed, so that every run has the same inputs.
 
-pub struct Rng(pub u64);
+use oracle::splitmix::Splitmix;
+
+pub struct Rng(Splitmix);
 
 impl Rng {
+    pub fn new(seed: u64) -> Self {
+        Self(Splitmix(seed))
+    }
+
     pub fn next(&mut self) -> u64 {
-        self.0 = self.0.wrapping_add(0x9e37_79b9_7f4a_7c15);
-        let mut z = self.0;
-        z = (z ^ (z >> 30)).wrapping_mul(0xbf58_476d_1ce4_e5b9);
-        z = (z ^ (z >> 27)).wrapping_mul(0x94d0_49bb_1331_11eb);
-        z ^ (z >> 31)
+        self.0.word()
     }
 
     pub fn below(&mut self, n: usize) -> usize {

@@ -21,7 +21,7 @@ pub struct Circuit {
 
 /// The circuit up to the first item that has no room, but no more than 200,000 items.
 pub fn circuit(style: Style, n: usize, sliced: bool, events: usize, zero: bool) -> Circuit {
-    let mut rng = Rng(n as u64 + 1000);
+    let mut rng = Rng::new(n as u64 + 1000);
     let labels = rng.labels(n, zero);
     let words = label_words(&labels);
     let mut store = Ours::open(&words, sliced, events, STEPS as u64, Words::Zeroed);
@@ -72,7 +72,7 @@ pub fn case<'a>(c: &'a Circuit, sliced: bool, events: usize, opening: Option<Wor
 
 /// Opening and giving back.
 pub fn opening<'a>(n: usize, sliced: bool, events: usize, come: Words) -> Case<'a> {
-    let labels = Rng(3).labels(n, false);
+    let labels = Rng::new(3).labels(n, false);
     let words = label_words(&labels);
     Case {
         calls: 1,

@@ -1,24 +1,22 @@
-//! A small random source (splitmix64), so that a seed and a number give the same job everywhere.
+//! Draws from splitmix64, so that a seed and a number give the same job everywhere.
+
+use oracle::splitmix::Splitmix;
 
 #[derive(Clone)]
-pub struct Random(u64);
+pub struct Random(Splitmix);
 
 impl Random {
     /// The source of one job: two seeds that differ in one bit share nothing.
     pub fn of(seed: u64, index: u64) -> Self {
-        let mut first = Random(seed ^ 0x7469_6c6c_626f_6e6e);
+        let mut first = Random(Splitmix(seed ^ 0x7469_6c6c_626f_6e6e));
         let a = first.word();
-        let mut second = Random(a ^ index.wrapping_mul(0xd134_2543_de82_ef95));
+        let mut second = Random(Splitmix(a ^ index.wrapping_mul(0xd134_2543_de82_ef95)));
         second.word();
         second
     }
 
     pub fn word(&mut self) -> u64 {
-        self.0 = self.0.wrapping_add(0x9e37_79b9_7f4a_7c15);
-        let mut z = self.0;
-        z = (z ^ (z >> 30)).wrapping_mul(0xbf58_476d_1ce4_e5b9);
-        z = (z ^ (z >> 27)).wrapping_mul(0x94d0_49bb_1331_11eb);
-        z ^ (z >> 31)
+        self.0.word()
     }
 
     /// Below `end`, which is not 0.

@@ -12,5 +12,6 @@ mod pass;
 mod pbc;
 #[allow(dead_code)]
 mod phase_fold_pauli;
+pub mod splitmix;
 
 pub use phase_fold_pauli::judge;

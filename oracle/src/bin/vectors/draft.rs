@@ -1,23 +1,20 @@
 //! A job in the making: its calls as values, the text of a job, and the small random source that all jobs come from.
 
 use oracle::judge::{Call, Clifford, Form, Judge, Kind, Reply};
+use oracle::splitmix::Splitmix;
 
 pub const MOST_STEPS: u64 = 1 << 20;
 
-/// Splitmix64: the same numbers on every machine.
-pub struct Rng(u64);
+/// What the jobs are drawn from.
+pub struct Rng(Splitmix);
 
 impl Rng {
     pub fn new(seed: u64) -> Self {
-        Self(seed)
+        Self(Splitmix(seed))
     }
 
     pub fn next(&mut self) -> u64 {
-        self.0 = self.0.wrapping_add(0x9e37_79b9_7f4a_7c15);
-        let mut z = self.0;
-        z = (z ^ (z >> 30)).wrapping_mul(0xbf58_476d_1ce4_e5b9);
-        z = (z ^ (z >> 27)).wrapping_mul(0x94d0_49bb_1331_11eb);
-        z ^ (z >> 31)
+        self.0.word()
     }
 
     pub fn below(&mut self, n: u64) -> u64 {
