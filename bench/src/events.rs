@@ -1,4 +1,5 @@
-//! Records, blockers and kills alone. Both sides keep their memory from one measurement to the next, so that no fresh memory is paid for.
+//! Records, blockers and kills alone. Both sides keep their memory from one measurement to the next, so that no fresh memory is
+//! paid for.
 
 use crate::circuits::{axis, scramble, towards};
 use crate::gates::gate;

@@ -1,6 +1,7 @@
 //! bench [--quick] [TEXT ..]: a line for each case whose name has all the texts: name, then ours and the original's least
 //! and middle times in nanoseconds, and the rounds, with tabs between. bench --list: the names.
-//! bench --one NAME ours|theirs TIMES: one side only, for callgrind with --toggle-collect='*region*'. bench --circuits: what the circuits are.
+//! bench --one NAME ours|theirs TIMES: one side only, for callgrind with --toggle-collect='*region*'.
+//! bench --circuits: what the circuits are.
 
 use bench::cases::{SHAPES, STYLES, all, shape};
 use bench::timing::measure;

@@ -1,5 +1,5 @@
-//! Our side: a store of its own words and the C functions of ../../include/tillbonnet.h, called in loops like those of `oracle`'s speed.rs.
-//! Nothing is checked between the calls but what the C function answers, once for a whole loop.
+//! Our side: a store of its own words and the C functions of ../../include/tillbonnet.h, called in loops like those of `oracle`'s
+//! speed.rs. Nothing is checked between the calls but what the C function answers, once for a whole loop.
 
 use oracle::judge::Kind;
 use oracle::judge::speed::{Angled, Gate, Item, found, mix};
@@ -103,12 +103,14 @@ impl Ours {
 
     /// Words that the calls so far have written.
     fn written(&self, from: usize, to: usize) -> &[u64] {
+        // SAFETY: asked for are the frames, the number of events and the lists' counts, all of which the opening in `open` wrote.
         unsafe { self.words[from..to].assume_init_ref() }
     }
 
     /// The same words opened again.
     pub fn reopen(&mut self, labels: &[u64]) {
         let (p, len) = self.lent();
+        // SAFETY: `p` and `len` are this store's words, all of them; `labels` is another slice, lent with its own length.
         let k = unsafe { tillbonnet_open(p, len, self.n, self.room, self.allowance, self.form, labels.as_ptr(), labels.len()) };
         assert_eq!(k, 0);
     }
@@ -117,6 +119,7 @@ impl Ours {
         let (p, len) = self.lent();
         let mut bad = 0;
         for call in calls {
+            // SAFETY: `p` and `len` are this store's words, all of them, which `&mut self` keeps for this function alone.
             bad |= unsafe { step(p, len, call) };
         }
         assert_eq!(bad, 0);
@@ -128,6 +131,7 @@ impl Ours {
         for i in 0..times {
             let (kind, q) = asked[i % asked.len()];
             let mut says = [0; 4];
+            // SAFETY: `p` and `len` are this store's words, only read here; `says` is a local array of four words.
             bad |= unsafe { tillbonnet_look(p, len, kind, q as usize, says.as_mut_ptr(), 4) };
             sum = mix(sum, if says[0] == 1 { found(says[1] as usize, says[2] as i8) } else { 0 });
         }
@@ -138,6 +142,7 @@ impl Ours {
     /// What a look says, and its steps.
     pub fn look(&self, kind: u64, q: u32) -> [i64; 4] {
         let mut says = [0; 4];
+        // SAFETY: this store's words with their own length, only read here; `says` is a local array of four words.
         let bad = unsafe { tillbonnet_look(self.words.as_ptr().cast(), self.words.len(), kind, q as usize, says.as_mut_ptr(), 4) };
         assert_eq!(bad, 0);
         says
@@ -147,6 +152,7 @@ impl Ours {
         let (p, len) = self.lent();
         let (mut first, mut bad) = (0, 0);
         for (tag, &(kind, q)) in asked.iter().enumerate() {
+            // SAFETY: `p` and `len` are this store's words, all of them; `first` is a local.
             bad |= unsafe { tillbonnet_record(p, len, kind, q as usize, tag as u32, &mut first) };
         }
         assert_eq!(bad, 0);
@@ -156,6 +162,7 @@ impl Ours {
         let (p, len) = self.lent();
         let mut bad = 0;
         for &id in ids {
+            // SAFETY: `p` and `len` are this store's words, all of them, which `&mut self` keeps for this function alone.
             bad |= unsafe { tillbonnet_kill(p, len, id) };
         }
         assert_eq!(bad, 0);
@@ -167,6 +174,7 @@ impl Ours {
         let mut gates = vec![0; self.room];
         let (mut sum, mut bad) = (0, 0);
         for (idx, item) in items.iter().enumerate() {
+            // SAFETY: `p` and `len` are this store's words, all of them, which `&mut self` keeps for this function alone.
             match *item {
                 Mine::Call(call) => bad |= unsafe { step(p, len, &call) },
                 Mine::Rotation { kind, q, angled } => {
@@ -209,15 +217,21 @@ impl Ours {
     /// The lengths and dead counts of all lists, in a sum.
     pub fn lists(&self) -> u64 {
         let l = self.n.div_ceil(64);
-        let counts = self.history() + 2 + 7 * self.room + self.room * 2 * l + self.room.div_ceil(64);
+        let counts = self.history() + 2 + 6 * self.room + self.room * 2 * l + self.room.div_ceil(64);
         let lists = if self.form == 1 { self.n } else { 64 };
         self.written(counts, counts + 2 * lists).iter().fold(0, |s, &w| mix(s, w))
     }
 }
 
+/// The call of this number, and its answer.
+///
+/// # Safety
+///
+/// `p` points to `len` words that nobody else reads or changes meanwhile.
 #[inline(always)]
 unsafe fn step(p: *mut u64, len: usize, call: &Coded) -> u32 {
     let (a, b, c, mut first) = (call.a as usize, call.b as usize, call.c as usize, 0);
+    // SAFETY: the caller says so of `p` and `len`; `first` is a local, outside of those words.
     unsafe {
         match call.number {
             0..=10 => tillbonnet_gate(p, len, u64::from(call.number), a, b),
@@ -231,9 +245,14 @@ unsafe fn step(p: *mut u64, len: usize, call: &Coded) -> u32 {
 }
 
 /// speed.rs's `rotation`. The partner's gate is in the host's own table, as the original has it in its events.
+///
+/// # Safety
+///
+/// `p` points to `len` words that nobody else reads or changes meanwhile.
 #[inline(always)]
 unsafe fn rotation(p: *mut u64, len: usize, gates: &mut [u32], idx: usize, kind: u64, q: usize, angled: Angled) -> (u64, u32) {
     let (mut says, mut first, mut seen) = ([0; 4], 0, 0);
+    // SAFETY: the caller says so of `p` and `len`; `says`, four words, and `first` are locals, outside of those words.
     unsafe {
         let mut bad = tillbonnet_look(p, len, kind, q, says.as_mut_ptr(), 4);
         if says[0] == 1 {

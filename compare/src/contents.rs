@@ -1,4 +1,5 @@
-//! What stands in the words that `damage` calls the library on: no store at all, something like one, or a good one with words changed.
+//! What stands in the words that `damage` calls the library on: no store at all, something like one, or a good one with words
+//! changed.
 
 use crate::jobs::gate;
 use crate::random::Random;

@@ -1,11 +1,13 @@
-//! What the words of a store should be, worked out from the original's state alone: every word that a state relies on (docs/STORE.md). The
-//! other words should be as they were, so a copy of the store from before a call, with these words put over it, is the store after it.
+//! What the words of a store should be, worked out from the original's state alone: every word that a state relies on
+//! (docs/STORE.md). The other words should be as they were, so a copy of the store from before a call, with these words put over
+//! it, is the store after it.
 
 use crate::words::Layout;
 use oracle::judge::{Judge, Plane};
 
-/// What the original does not keep in a form that can be read: the label under which each event was recorded (its map is keyed by it) and
-/// how many events there were at the last clear (its map is emptied). Both are taken from the `Judge` when the call is made.
+/// What the original does not keep in a form that can be read: the label under which each event was recorded (its map is keyed by
+/// it) and how many events there were at the last clear (its map is emptied). Both are taken from the `Judge` when the call is
+/// made.
 #[derive(Default)]
 pub struct Notes {
     /// `None` for a blocker.
@@ -122,7 +124,7 @@ fn chain(k: usize, judge: &Judge, notes: &Notes, at: &Layout, put: &mut impl FnM
 
 /// The same of all buckets at once.
 fn chains(judge: &Judge, notes: &Notes, at: &Layout, put: &mut impl FnMut(usize, u64)) {
-    let mut heads = vec![0; 2 * at.cap];
+    let mut heads = vec![0; at.cap];
     for (id, label) in notes.labels.iter().enumerate() {
         let Some(label) = label else { continue };
         if judge.event(id).is_some_and(|e| e.live) {

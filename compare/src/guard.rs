@@ -1,9 +1,10 @@
-//! Memory between closed pages, so that a read or write outside of a slice, by one word or by 2^27, ends the process; and what is said when
-//! it does, or when a call does not come back in time. For Linux on x86-64, as the library is.
+//! Memory between closed pages, so that a read or write outside of a slice, by one word or by 2^27, ends the process; and what is
+//! said when it does, or when a call does not come back in time. For Linux on x86-64, as the library is.
 
 use std::sync::OnceLock;
 use std::sync::atomic::{AtomicU64, Ordering::Relaxed};
 
+// SAFETY: the signatures are the C library's on x86-64 Linux: sizes, offsets and a handler's address have 64 bits, an int 32.
 unsafe extern "C" {
     fn mmap(at: *mut u8, bytes: usize, may: i32, how: i32, file: i32, from: i64) -> *mut u8;
     fn mprotect(at: *mut u8, bytes: usize, may: i32) -> i32;
@@ -53,7 +54,8 @@ impl Region {
         unsafe { std::slice::from_raw_parts_mut(self.first, self.words) }
     }
 
-    /// Lends so many words, which end where the closed page begins, or begin where the other one ends. What was lent before is blank again.
+    /// Lends so many words, which end where the closed page begins, or begin where the other one ends. What was lent before is
+    /// blank again.
     pub fn lend(&mut self, words: usize, at_end: bool) {
         let (from, count) = self.lent;
         self.all()[from..from + count].fill(BLANK);

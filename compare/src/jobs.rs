@@ -277,8 +277,8 @@ impl Jobs {
         }
     }
 
-    /// A look for what was just recorded, where it has come to the end of a block of 64 or to the begin of one, and for an axis y of many
-    /// qubits.
+    /// A look for what was just recorded, where it has come to the end of a block of 64 or to the begin of one, and for an axis y
+    /// of many qubits.
     fn after_record(&mut self, kind: Kind, q: u64, judge: &Judge, last: Option<Reply>) {
         let Some(Reply::Event(id)) = last else { return };
         let support = judge.event(id).map_or(0, |e| e.signature);

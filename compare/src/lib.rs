@@ -1,5 +1,5 @@
-//! Our proved library held against the original Rust, call by call (`compare`), and against arbitrary contents (`damage`). README.md says
-//! what is compared and when.
+//! Our proved library held against the original Rust, call by call (`compare`), and against arbitrary contents (`damage`).
+//! README.md says what is compared and when.
 
 pub mod contents;
 pub mod expected;

@@ -1,5 +1,5 @@
-//! Openings, most of them refused: 1, 2 and 3 in their order, and no word changed then. The original's side says what is refused for its
-//! sizes; that the store is too short is 01's rule, with the need of docs/STORE.md.
+//! Openings, most of them refused: 1, 2 and 3 in their order, and no word changed then. The original's side says what is refused
+//! for its sizes; that the store is too short is 01's rule, with the need of docs/STORE.md.
 
 use crate::random::Random;
 use crate::run::Difference;
@@ -33,8 +33,8 @@ fn asked(random: &mut Random) -> Asked {
     Asked { n, cap, steps, form, label_words }
 }
 
-/// 1, 2 or 3 for labels by the original's side, or 0. It is not asked to build frames of more than 2,000 qubits: there 01's rule for
-/// labels is used, of which these are never enough.
+/// 1, 2 or 3 for labels by the original's side, or 0. It is not asked to build frames of more than 2,000 qubits: there 01's rule
+/// for labels is used, of which these are never enough.
 fn refusal(a: &Asked) -> u32 {
     let words = 4 * a.n as u128;
     let labels = if a.n <= 2000 && a.label_words as u128 == words { a.n as usize } else { a.n.min(2000) as usize + 1 };

@@ -1,5 +1,5 @@
-//! Every gate and turn after every other on two qubits: all 11 gates on all ordered choices of qubits and all turns, 54 in all, so 2,916
-//! pairs, each in both forms, on fresh frames and on scrambled ones; then all axes are recorded and looked for.
+//! Every gate and turn after every other on two qubits: all 11 gates on all ordered choices of qubits and all turns, 54 in all,
+//! so 2,916 pairs, each in both forms, on fresh frames and on scrambled ones; then all axes are recorded and looked for.
 
 use crate::jobs::gate;
 use crate::random::Random;

@@ -2,21 +2,24 @@
 //!
 //! After every call, whatever the size:
 //! - the answer, and what the call wrote to `first` or `says` (on a refusal: nothing);
-//! - every word of the parts that the call can have touched, against the original's state: the rows, phases and labels of the qubits it
-//!   names; the numbers; tag, sign, label, signature, axis and live word of the events it recorded or killed; the chain of their bucket;
-//!   all lists of their signature, with length, dead count, entries, masks and live words;
+//! - every word of the parts that the call can have touched, against the original's state: the rows, phases and labels of the
+//!   qubits it names; the numbers; tag, sign, label, signature, axis and live word of the events it recorded or killed; the chain
+//!   of their bucket; all lists of their signature, with length, dead count, entries, masks and live words;
 //! - after a look: the chain under its label, a read of what it found and of two more ids (dead, blockers, out of range).
 //!
 //! At intervals and at the end of the job: the whole store, every word. A word that the state relies on is worked out from the
-//! original's state anew (`expected::whole`); any other has to be as it was before the call. A store of W words is compared whole after
-//! every call where W is at most 2,000 and after every (W / 2,000)th call, rounded up, else. In between, up to 20,000 words after every
-//! call and else after every (W / 20,000)th, the store is compared with the copy that holds the words of the last such comparison and the
-//! parts touched since: this finds words written that the call has no business with, so a refusal, a read or a look that writes.
+//! original's state anew (`expected::whole`); any other has to be as it was before the call. A store of W words is compared whole
+//! after every call where W is at most 2,000 and after every (W / 2,000)th call, rounded up, else. In between, up to 20,000 words
+//! after every call and else after every (W / 20,000)th, the store is compared with the copy that holds the words of the last
+//! such comparison and the parts touched since: this finds words written that the call has no business with, so a refusal, a read
+//! or a look that writes.
 //!
-//! The wrapper shows no words: of a job through it the answers, looks and reads are compared, and at the end a read of every event.
+//! The wrapper shows no words: of a job through it the answers, looks and reads are compared, and at the end a read of every
+//! event.
 //!
-//! Absolute signs: the stored sign of every event is part of its word; besides, after a gate or turn (up to 64 qubits; else at the end, for
-//! 8 qubits) the frames are copied to a small store, x, y and z of the qubit are recorded there, and the signs read are the original's.
+//! Absolute signs: the stored sign of every event is part of its word; besides, after a gate or turn (up to 64 qubits) and at
+//! the end (for at most 8 qubits) the frames are copied to a small store, x, y and z of the qubit are recorded there, and the signs read
+//! are the original's.
 
 mod counts;
 
@@ -207,7 +210,8 @@ impl<'a> Pair<'a> {
         checked.map_err(|d| Difference { op: Some(*op), ..d })
     }
 
-    /// The end of a job: the whole store, and the signs of some qubits; of the wrapper, which shows no words, a read of every event.
+    /// The end of a job: the whole store, and the signs of some qubits; of the wrapper, which shows no words, a read of every
+    /// event.
     pub fn finish(&mut self) -> Checked {
         self.whole()?;
         if self.side.words().is_none() {

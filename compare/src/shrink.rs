@@ -1,5 +1,5 @@
-//! Makes a job that shows a difference smaller: operations are dropped, in halves, quarters and so on down to single ones, as long as
-//! some difference stays. The whole store is compared after every operation then.
+//! Makes a job that shows a difference smaller: operations are dropped, in halves, quarters and so on down to single ones, as
+//! long as some difference stays. The whole store is compared after every operation then.
 
 use crate::run::{Difference, How, Op, Opening, Pair, open_raw, open_wrapped};
 use crate::sides::Side;

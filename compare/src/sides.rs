@@ -124,6 +124,7 @@ impl Raw {
     pub fn open(&mut self, words: usize, n: u64, cap: u64, steps: u64, form: u64, labels: &[u64]) -> u32 {
         assert!(words <= self.lent);
         let at = self.at();
+        // SAFETY: `words` words from `at` on are this store's, and `labels` is a slice of its own, lent with its own length.
         unsafe { tillbonnet_open(at, words, n as usize, cap as usize, steps, form, labels.as_ptr(), labels.len()) }
     }
 

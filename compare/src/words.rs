@@ -50,7 +50,7 @@ impl Layout {
         let sketch = frame + n * 2 * (2 * l + 1);
         let numbers = sketch + 4 * n;
         let heads = numbers + 2;
-        let links = heads + 2 * cap;
+        let links = heads + cap;
         let labels = links + cap;
         let tags = labels + 2 * cap;
         let sigs = tags + cap;
@@ -98,9 +98,9 @@ impl Layout {
         self.entry(list, self.cap) + 2 * self.n * self.blocks + block
     }
 
-    /// The bucket of a label: its low word's lower half times 2E, divided by 2^32.
+    /// The bucket of a label: its low word's lower half times E, divided by 2^32.
     pub fn bucket(&self, label: u128) -> usize {
-        (((label as u64 & 0xffff_ffff) * (2 * self.cap as u64)) >> 32) as usize
+        (((label as u64 & 0xffff_ffff) * self.cap as u64) >> 32) as usize
     }
 
     /// What stands in a word, in words.
@@ -153,8 +153,8 @@ impl Layout {
     }
 }
 
-/// The live rotations with this label that were recorded since the last clear, newest first: the walk of a look over our words. It ends
-/// because it asks that the numbers fall; `Err` names the cell where they do not, or where a number is no event's.
+/// The live rotations with this label that were recorded since the last clear, newest first: the walk of a look over our words.
+/// It ends because it asks that the numbers fall; `Err` names the cell where they do not, or where a number is no event's.
 pub fn chain(words: &[u64], at: &Layout, label: u128) -> Result<Vec<usize>, usize> {
     let (events, cleared) = (words[at.numbers], words[at.numbers + 1]);
     let mut cell = at.heads + at.bucket(label);

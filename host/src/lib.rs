@@ -1,7 +1,7 @@
 //! The partner search of phase folding, proved in Rattle (../crates/host), as a Rust value that owns its store.
 //!
-//! A [`Store`] hands its own words to every call and nobody else can touch them, so a store that is too short (3) and words that are
-//! no store's (9) cannot come back, and gates, kinds and forms are named by enums, so 10 cannot either. What is left of the
+//! A [`Store`] hands its own words to every call and nobody else can touch them, so a store that is too short (3) and words that
+//! are no store's (9) cannot come back, and gates, kinds and forms are named by enums, so 10 cannot either. What is left of the
 //! refusals is [`Refusal`]. ../compare/tests/wrapper.rs holds the wrapper against the original.
 
 pub mod raw;
@@ -95,8 +95,8 @@ pub enum Sight {
     Out { steps: u32 },
 }
 
-/// A store with its own words. An opening relies on none of their old contents, so they are taken from the allocator as they come and never
-/// swept; words that no state relies on may stay so.
+/// A store with its own words. An opening relies on none of their old contents, so they are taken from the allocator as they come
+/// and never swept; words that no state relies on may stay so.
 #[derive(Clone)]
 pub struct Store {
     words: Box<[MaybeUninit<u64>]>,
@@ -167,8 +167,8 @@ impl Store {
         }
     }
 
-    /// A store for n qubits and up to `events` events, `steps` steps for each look. Labels: four random words a qubit, X high, X low,
-    /// Z high, Z low.
+    /// A store for n qubits and up to `events` events, `steps` steps for each look. Labels: four random words a qubit, X high,
+    /// X low, Z high, Z low.
     pub fn open(n: usize, events: usize, steps: u64, form: Form, labels: &[u64]) -> Result<Self, Refusal> {
         // Where no opening accepts the sizes any words will do: the opening says which of them is refused.
         let mut store = Self { words: Box::new_uninit_slice(Self::need(n, events, form).unwrap_or(0)) };
@@ -183,50 +183,58 @@ impl Store {
     pub fn gate(&mut self, gate: Gate) -> Result<(), Refusal> {
         let (number, a, b) = gate.numbers();
         let (at, words) = self.lent();
-        // SAFETY: the words are lent with their own length; so in every call below.
+        // SAFETY: the words are lent with their own length.
         told(unsafe { raw::tillbonnet_gate(at, words, number, a, b) })
     }
 
     /// A turn by k eighths of a full turn: 0, 2, 4 or 6.
     pub fn turn(&mut self, kind: Kind, k: u64, q: usize) -> Result<(), Refusal> {
         let (at, words) = self.lent();
+        // SAFETY: the words are lent with their own length.
         told(unsafe { raw::tillbonnet_turn(at, words, kind.number(), k, q) })
     }
 
     /// Records a rotation; its number.
     pub fn record(&mut self, kind: Kind, q: usize, tag: u32) -> Result<usize, Refusal> {
+        // SAFETY: `recorded` hands over the words with their own length, and its own `first`.
         self.recorded(|s, w, first| unsafe { raw::tillbonnet_record(s, w, kind.number(), q, tag, first) })
     }
 
     /// Records the blocker of a measurement; its number.
     pub fn measure(&mut self, q: usize) -> Result<usize, Refusal> {
+        // SAFETY: `recorded` hands over the words with their own length, and its own `first`.
         self.recorded(|s, w, first| unsafe { raw::tillbonnet_measure(s, w, q, first) })
     }
 
     /// Records the two blockers of a reset; the number of the first.
     pub fn reset(&mut self, q: usize) -> Result<usize, Refusal> {
+        // SAFETY: `recorded` hands over the words with their own length, and its own `first`.
         self.recorded(|s, w, first| unsafe { raw::tillbonnet_reset(s, w, q, first) })
     }
 
     /// Records the seven blockers of a ccx with controls a and b and target t; the number of the first.
     pub fn ccx(&mut self, a: usize, b: usize, t: usize) -> Result<usize, Refusal> {
+        // SAFETY: `recorded` hands over the words with their own length, and its own `first`.
         self.recorded(|s, w, first| unsafe { raw::tillbonnet_ccx(s, w, a, b, t, first) })
     }
 
     /// The same of a ccz.
     pub fn ccz(&mut self, a: usize, b: usize, t: usize) -> Result<usize, Refusal> {
+        // SAFETY: `recorded` hands over the words with their own length, and its own `first`.
         self.recorded(|s, w, first| unsafe { raw::tillbonnet_ccz(s, w, a, b, t, first) })
     }
 
     /// Kills a rotation that merged away.
     pub fn kill(&mut self, id: usize) -> Result<(), Refusal> {
         let (at, words) = self.lent();
+        // SAFETY: the words are lent with their own length.
         told(unsafe { raw::tillbonnet_kill(at, words, id) })
     }
 
     /// From now on no rotation recorded so far can be found.
     pub fn clear(&mut self) {
         let (at, words) = self.lent();
+        // SAFETY: the words are lent with their own length.
         told(unsafe { raw::tillbonnet_clear(at, words) }).expect("a clear of an open store is never refused");
     }
 
@@ -234,6 +242,7 @@ impl Store {
     pub fn read(&self, id: usize) -> Result<Reading, Refusal> {
         let mut says = [0; 3];
         let (at, words) = self.shown();
+        // SAFETY: the words are shown with their own length, and `says` is a local array, lent with its own.
         told(unsafe { raw::tillbonnet_read(at, words, id, says.as_mut_ptr(), says.len()) })?;
         Ok(Reading { tag: says[0] as u32, sign: says[1] as i8, live: says[2] != 0 })
     }
@@ -242,6 +251,7 @@ impl Store {
     pub fn look(&self, kind: Kind, q: usize) -> Result<Sight, Refusal> {
         let mut says = [0; 4];
         let (at, words) = self.shown();
+        // SAFETY: the words are shown with their own length, and `says` is a local array, lent with its own.
         told(unsafe { raw::tillbonnet_look(at, words, kind.number(), q, says.as_mut_ptr(), says.len()) })?;
         let [what, id, sign, steps] = says;
         let steps = steps as u32;

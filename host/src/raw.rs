@@ -1,8 +1,13 @@
-//! The functions of ../../include/tillbonnet.h as they are. `Store` is the way to call them; the comparison and the benchmark use these.
+//! The functions of ../../include/tillbonnet.h as they are. `Store` is the way to call them; the comparison and the benchmark use
+//! these.
 //!
-//! Each asks only that a pointer with a length points to that many words, which nobody else changes during the call, and that `labels`, `first` and
-//! `says` are words outside the store.
+//! # Safety
+//!
+//! Each asks only that a pointer with a length points to that many words (it is not null, even where the length is 0), which nobody
+//! else changes during the call, and that `labels`, `first` and `says` are words outside the store.
 
+// SAFETY: the signatures are those of ../../include/tillbonnet.h, whose functions libhost.a has (../build.rs links it); the one
+// that is `safe` takes numbers alone.
 unsafe extern "C" {
     pub safe fn tillbonnet_need(n: usize, events: usize, form: u64) -> usize;
     pub fn tillbonnet_open(

@@ -1,5 +1,5 @@
-//! Stands in for tzap's src/angle.rs (Apache-2.0, see NOTICE). An angle is a count of quarters of pi (T is 1, S 2, Z 4), or one that
-//! is no such multiple. The oracle never merges or emits angles, so those functions only have their names.
+//! Stands in for tzap's src/angle.rs (Apache-2.0, see NOTICE). An angle is a count of quarters of pi (T is 1, S 2, Z 4), or one
+//! that is no such multiple. The oracle never merges or emits angles, so those functions only have their names.
 
 use crate::circuit::{Circuit, Gate};
 

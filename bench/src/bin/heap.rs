@@ -1,5 +1,5 @@
-//! The store's size against the original's heap, for the circuits of the whole runs: a table in Markdown. A program of its own, since its
-//! allocator counts and that takes time.
+//! The store's size against the original's heap, for the circuits of the whole runs: a table in Markdown. A program of its own,
+//! since its allocator counts and that takes time.
 
 use bench::cases::{SHAPES, STYLES, shape};
 use bench::ours::{Ours, Words};
@@ -17,23 +17,28 @@ fn more(bytes: usize) {
     MOST.fetch_max(NOW.fetch_add(bytes, Relaxed) + bytes, Relaxed);
 }
 
+// SAFETY: every call is the same call of `System`, which keeps the promises; counting changes two atomics and does not allocate.
 unsafe impl GlobalAlloc for Counting {
     unsafe fn alloc(&self, layout: Layout) -> *mut u8 {
         more(layout.size());
+        // SAFETY: the caller keeps what `alloc` asks of the layout, and it is handed on as it came.
         unsafe { System.alloc(layout) }
     }
     unsafe fn alloc_zeroed(&self, layout: Layout) -> *mut u8 {
         more(layout.size());
+        // SAFETY: as in `alloc`.
         unsafe { System.alloc_zeroed(layout) }
     }
     unsafe fn dealloc(&self, at: *mut u8, layout: Layout) {
         NOW.fetch_sub(layout.size(), Relaxed);
+        // SAFETY: the block is `System`'s, as all blocks are, and the caller hands over the layout that it was allocated with.
         unsafe { System.dealloc(at, layout) }
     }
     unsafe fn realloc(&self, at: *mut u8, layout: Layout, size: usize) -> *mut u8 {
         // Both blocks may be there for a while.
         more(size);
         NOW.fetch_sub(layout.size(), Relaxed);
+        // SAFETY: as in `dealloc`; the size is the caller's, who keeps what `realloc` asks of it.
         unsafe { System.realloc(at, layout, size) }
     }
 }
@@ -69,5 +74,6 @@ fn main() {
 
 /// Pages with a word that was written.
 fn pages(ours: &Ours) -> usize {
+    // SAFETY: `main` has written `MARK` to every word.
     ours.words.chunks(512).filter(|page| page.iter().any(|w| unsafe { w.assume_init() } != MARK)).count()
 }

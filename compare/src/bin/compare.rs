@@ -1,13 +1,13 @@
-//! The same random jobs with the same labels on the original Rust and on our library, compared after every call (../run.rs says what and
-//! when). Exit 1 on a difference, or where a run of 1,000 jobs has missed a feature (../tally.rs).
+//! The same random jobs with the same labels on the original Rust and on our library, compared after every call (../run.rs says
+//! what and when). Exit 1 on a difference, or where a run of 1,000 jobs has missed a feature (../tally.rs).
 //!
 //!     compare --jobs N [--seed S] [--quick]
 //!     compare --job SEED:INDEX                 one job, call by call
 //!     compare --pair INDEX                     one job of the pairs of gates, call by call
 //!     compare --widest                         one job of 23,168 qubits, the most there can be (takes some 1 GB)
 //!
-//! `--quick` leaves out three of four jobs of the pairs of gates. A fault, a panic or a job of more than 60 seconds ends the run and names
-//! the job.
+//! `--quick` leaves out three of four jobs of the pairs of gates. A fault, a panic or a random job of more than 60 seconds
+//! ends the run and names the job; one job or pair by itself runs without that watch.
 
 use compare::guard::{BATCH, SEED, patience, watch};
 use compare::random::Random;

@@ -1,14 +1,15 @@
-//! Calls on arbitrary contents: every call returns, nothing outside of the words lent changes or is read, a refusal changes nothing.
+//! Calls on arbitrary contents: every call returns, nothing outside of the words lent changes or is read, a refusal changes
+//! nothing.
 //!
 //!     damage --calls N [--seed S]
 //!     damage --batch SEED:INDEX        one batch, call by call
 //!
-//! A batch is one slice of words, of a kind of ../contents.rs, and some 20 calls on it, with more damage in between. The slice ends where a
-//! closed page begins, or begins where one ends; so do the labels, `first` and `says`. After each call:
-//! - the answer is one of those that ../../../include/tillbonnet.h lists for the call; it is 10 where a number names nothing, 3 where a
-//!   slice is too short, and 9 where the first five words are none that an opening writes (docs/STORE.md);
+//! A batch is one slice of words, of a kind of ../contents.rs, and some 20 calls on it, with more damage in between. The slice
+//! ends where a closed page begins, or begins where one ends; so do the labels, `first` and `says`. After each call:
+//! - the answer is one of those that ../../../include/tillbonnet.h lists for the call; it is 10 where a number names nothing, 3
+//!   where a slice is too short, and 9 where the first five words are none that an opening writes (docs/STORE.md);
 //! - on 1 to 8 and 10 no word of the store has changed, nor `first` nor `says`; a look, a read and `labels` never change a word;
-//! - what a look or a read says is in its range; `first` was the number of events;
+//! - what a look or a read says is in its range; `first` is below the room for events;
 //! - the words beside the slices are as they were: 64 on each side after each call, all of them after each batch.
 //!
 //! A fault or a batch of more than 10 seconds ends the run and names the batch and the call.
@@ -302,8 +303,8 @@ impl Desk {
         }
     }
 
-    /// The answer where it is known for any contents: too few words for what is said, a number that names nothing, a slice shorter than
-    /// its header or than word 0, a header that is none.
+    /// The answer where it is known for any contents: too few words for what is said, a number that names nothing, a slice
+    /// shorter than its header or than word 0, a header that is none.
     fn expected(&self, made: &Made) -> Option<u32> {
         let short = self.before.len() < 14 || (self.before.len() as u64) < self.before[0];
         let unnamed = match made.call {
@@ -321,8 +322,8 @@ impl Desk {
         }
     }
 
-    /// Whether the header, which is whole, is none that an opening writes (docs/STORE.md): sizes out of range, or a need above word 0. A
-    /// gate and a turn ask for the frames only.
+    /// Whether the header, which is whole, is none that an opening writes (docs/STORE.md): sizes out of range, or a need above
+    /// word 0. A gate and a turn ask for the frames only.
     fn headed(&self, call: usize) -> bool {
         let [size, n, form, cap, steps] = self.before[..5].try_into().expect("five words");
         let frames = matches!(call, GATE | TURN);

@@ -13,7 +13,7 @@ use Rattle.model.proofs.Members.{clash}
 use Rattle.history.specs.Newest.{headPlace, linkPlace, newest, Chained, Linked, Before, Unlinked}
 
 -- the product of a half word and the number of heads is below that many half words
-pub half-times : (low cap : ℕ) → 1 ≤ cap → low % 4294967296 * (2 * cap) < 4294967296 * (2 * cap)
+pub half-times : (low cap : ℕ) → 1 ≤ cap → low % 4294967296 * cap < 4294967296 * cap
 half-times low cap h = mul-lt-mul-of-pos-right (omega arith) (omega arith)
 
 -- ---- the newest
@@ -107,17 +107,17 @@ module _ (p q : ℕ → Bool) (id : ℕ) (gone : q id ≡ false) (same : (i : �
 
 -- ---- a new head
 
-module _ (h : List ℕ) (cap k id : ℕ) (room : 2 + 3 * cap ≤ length h) (there : k < 2 * cap) (small : id < cap) where
-  pub linked : Linked h cap k id (set (set h (2 + 2 * cap + id) (getD h (2 + k) 0)) (2 + k) (id + 1))
+module _ (h : List ℕ) (cap k id : ℕ) (room : 2 + 2 * cap ≤ length h) (there : k < cap) (small : id < cap) where
+  pub linked : Linked h cap k id (set (set h (2 + cap + id) (getD h (2 + k) 0)) (2 + k) (id + 1))
   linked = record {
     head = getD-set-same g (2 + k) (id + 1) 0 (simp length-set (omega arith));
-    link = getD-set-other g (2 + k) (2 + 2 * cap + id) (id + 1) 0 (λ e. omega arith) ∙ getD-set-same h (2 + 2 * cap + id) (getD h (2 + k) 0) 0 (omega arith);
-    other = λ j a b. getD-set-other g (2 + k) j (id + 1) 0 a ∙ getD-set-other h (2 + 2 * cap + id) j (getD h (2 + k) 0) 0 b;
-    long = length-set g (2 + k) (id + 1) ∙ length-set h (2 + 2 * cap + id) (getD h (2 + k) 0);
+    link = getD-set-other g (2 + k) (2 + cap + id) (id + 1) 0 (λ e. omega arith) ∙ getD-set-same h (2 + cap + id) (getD h (2 + k) 0) 0 (omega arith);
+    other = λ j a b. getD-set-other g (2 + k) j (id + 1) 0 a ∙ getD-set-other h (2 + cap + id) j (getD h (2 + k) 0) 0 b;
+    long = length-set g (2 + k) (id + 1) ∙ length-set h (2 + cap + id) (getD h (2 + k) 0);
   }
     where
       g : List ℕ
-      g = set h (2 + 2 * cap + id) (getD h (2 + k) 0)
+      g = set h (2 + cap + id) (getD h (2 + k) 0)
 
 -- ---- the walk to an event's place
 
@@ -141,7 +141,7 @@ module _ (p : ℕ → Bool) (n cap k id : ℕ) (h : List ℕ) (few : n ≤ cap) 
     pub walk-reaches : id + 1 ≤ v
     walk-reaches = omega (arith, w .says, newest-ge p (w .upper) id (w .above) picked)
 
-    pub walk-goes : id + 1 < v → Walking p n cap k id (2 + 2 * cap + (v - 1)) (getD h (2 + 2 * cap + (v - 1)) 0) v
+    pub walk-goes : id + 1 < v → Walking p n cap k id (2 + cap + (v - 1)) (getD h (2 + cap + (v - 1)) 0) v
     walk-goes far =
         let e : newest p (w .upper) ≡ suc (v - 1) = omega (arith, w .says) in
         let t = newest-hit p (w .upper) (v - 1) e in
@@ -160,11 +160,11 @@ module _ (p : ℕ → Bool) (n cap k id : ℕ) (h : List ℕ) (few : n ≤ cap) 
 -- ---- chains after that
 
 -- a cell behind which the event id stands, with what stood behind that
-pub unlinked : (p : ℕ → Bool) (n cap k id c : ℕ) (h : List ℕ) → 2 + 3 * cap ≤ length h → c < 2 + 3 * cap → Chained p n cap k h → id < n → p id ≡ true → Before p n cap k id c
-    → Unlinked p n cap k id h (set h c (getD h (2 + 2 * cap + id) 0))
+pub unlinked : (p : ℕ → Bool) (n cap k id c : ℕ) (h : List ℕ) → 2 + 2 * cap ≤ length h → c < 2 + 2 * cap → Chained p n cap k h → id < n → p id ≡ true → Before p n cap k id c
+    → Unlinked p n cap k id h (set h c (getD h (2 + cap + id) 0))
 unlinked p n cap k id c h room there chain in-it picked b = record {
   cell = c;
   before = b;
-  here = getD-set-same h c (getD h (2 + 2 * cap + id) 0) 0 (omega arith) ∙ chain .link id in-it picked;
-  other = λ j d. getD-set-other h c j (getD h (2 + 2 * cap + id) 0) 0 d;
+  here = getD-set-same h c (getD h (2 + cap + id) 0) 0 (omega arith) ∙ chain .link id in-it picked;
+  other = λ j d. getD-set-other h c j (getD h (2 + cap + id) 0) 0 d;
 }

@@ -39,18 +39,18 @@ pub record Dropped (cap l id : ℕ) (h f : List ℕ) : Type 0 where
 
 pub dropped : (h : List ℕ) (l cap id bit : ℕ) → countPlace cap l ≤ length h → id < cap → bit ≡ 2 ^ (id % 64)
     → Dropped cap l id h
-    (set (set h (2 + 7 * cap + cap * (2 * l) + id / 64) (bitAnd (getD h (2 + 7 * cap + cap * (2 * l) + id / 64) 0) ((2 ^ 64 - 1) - bit))) (2 + 6 * cap + id) 0)
+    (set (set h (2 + 6 * cap + cap * (2 * l) + id / 64) (bitAnd (getD h (2 + 6 * cap + cap * (2 * l) + id / 64) 0) ((2 ^ 64 - 1) - bit))) (2 + 5 * cap + id) 0)
 dropped h l cap id bit room small is = record {
   live-word =
-      getD-set-other h1 (2 + 6 * cap + id) alive 0 0 (λ e. omega arith) ∙ getD-set-same h alive cleared 0 (omega (arith, live-in))
+      getD-set-other h1 (2 + 5 * cap + id) alive 0 0 (λ e. omega arith) ∙ getD-set-same h alive cleared 0 (omega (arith, live-in))
       ∙ ap (λ (b : ℕ). bitAnd (getD h alive 0) ((2 ^ 64 - 1) - b)) is;
-  sig-word = getD-set-same h1 (2 + 6 * cap + id) 0 0 (simp length-set (omega (arith, live-in)));
-  other = λ k a b. getD-set-other h1 (2 + 6 * cap + id) k 0 0 a ∙ getD-set-other h alive k cleared 0 b;
-  long = length-set h1 (2 + 6 * cap + id) 0 ∙ length-set h alive cleared;
+  sig-word = getD-set-same h1 (2 + 5 * cap + id) 0 0 (simp length-set (omega (arith, live-in)));
+  other = λ k a b. getD-set-other h1 (2 + 5 * cap + id) k 0 0 a ∙ getD-set-other h alive k cleared 0 b;
+  long = length-set h1 (2 + 5 * cap + id) 0 ∙ length-set h alive cleared;
 }
   where
     alive : ℕ
-    alive = 2 + 7 * cap + cap * (2 * l) + id / 64
+    alive = 2 + 6 * cap + cap * (2 * l) + id / 64
 
     cleared : ℕ
     cleared = bitAnd (getD h alive 0) ((2 ^ 64 - 1) - bit)
@@ -67,7 +67,7 @@ dropped h l cap id bit room small is = record {
 abbrev Spot : (p : ℕ → Bool) (n cap k c u : ℕ) → Type 0
 Spot p n cap k c u = ((c ≡ headPlace k) × (u ≡ n)) ⊎ ((c ≡ linkPlace cap u) × (u < n) × (p u ≡ true))
 
-module _ (p q : ℕ → Bool) (n cap k id : ℕ) (h g : List ℕ) (there : k < 2 * cap) (gone-q : q id ≡ false) (same : (i : ℕ) → (i ≡ id → ⊥) → q i ≡ p i) (chain : Chained p n cap k h)
+module _ (p q : ℕ → Bool) (n cap k id : ℕ) (h g : List ℕ) (there : k < cap) (gone-q : q id ≡ false) (same : (i : ℕ) → (i ≡ id → ⊥) → q i ≡ p i) (chain : Chained p n cap k h)
     (un : Unlinked p n cap k id h g) where
   spot-le : (c u : ℕ) → Spot p n cap k c u → u ≤ n
   spot-le c u (inl s) = omega (arith, s .1)
@@ -144,14 +144,14 @@ in-live cap k es i e = and-both (liveAt es i) (bodyIn cap k (eventAt es i .body)
 
 -- ---- the event dies
 
-module _ (cap l : ℕ) (es : List Event) (id : ℕ) (h f : List ℕ) (few : length es ≤ cap) (d : Dying es id) (held : EventsHeld cap l es h) (w : Dropped cap l id h f) (k : ℕ) (there : k < 2 * cap)
+module _ (cap l : ℕ) (es : List Event) (id : ℕ) (h f : List ℕ) (few : length es ≤ cap) (d : Dying es id) (held : EventsHeld cap l es h) (w : Dropped cap l id h f) (k : ℕ) (there : k < cap)
     (own : k ≡ bucketOf cap (getD h (labelPlace cap id + 1) 0)) where
   -- it is in its bucket's chain
   pub dying-in : inBucket cap k es id ≡ true
   unfolding inBucket
   dying-in = both-and (liveAt es id) (bodyIn cap k (eventAt es id .body)) (d .live) (in-own cap k (labelPlace cap id) h (eventAt es id .body) (d .rotation) (held .bodies .label id (d .there)) own)
 
-  chain-kept : (j : ℕ) → j < 2 * cap → Chained (inBucket cap j es) (length es) cap j f
+  chain-kept : (j : ℕ) → j < cap → Chained (inBucket cap j es) (length es) cap j f
   chain-kept j jb = record {
     head = w .other (headPlace j) (λ e. omega arith) (λ e. omega arith) ∙ held .chains j jb .head;
     link = λ i b t. w .other (linkPlace cap i) (λ e. omega arith) (λ e. omega arith) ∙ held .chains j jb .link i b t;
@@ -205,18 +205,18 @@ module _ (cap l : ℕ) (es : List Event) (id : ℕ) (h f : List ℕ) (few : leng
     in-other j i n = ap (λ (e : Event). e .live && bodyIn cap j (e .body)) (at-other i n)
 
     -- the words then
-    before-low : (c : ℕ) → Spot (inBucket cap k es) (length es) cap k c (un .before .upper) → c < 2 + 3 * cap
+    before-low : (c : ℕ) → Spot (inBucket cap k es) (length es) cap k c (un .before .upper) → c < 2 + 2 * cap
     before-low c (inl s) = omega (arith, s .0)
     before-low c (inr s) = omega (arith, s .0, s .1)
 
-    late : (j : ℕ) → 2 + 3 * cap ≤ j → getD g j 0 ≡ getD f j 0
+    late : (j : ℕ) → 2 + 2 * cap ≤ j → getD g j 0 ≡ getD f j 0
     late j b = un .other j (λ e. omega (arith, before-low (un .cell) (un .before .place)))
 
-    kept : (j : ℕ) → 2 + 3 * cap ≤ j → (j ≡ sigPlace cap + id → ⊥) → (j ≡ alivePlace cap l + id / 64 → ⊥) → getD g j 0 ≡ getD h j 0
+    kept : (j : ℕ) → 2 + 2 * cap ≤ j → (j ≡ sigPlace cap + id → ⊥) → (j ≡ alivePlace cap l + id / 64 → ⊥) → getD g j 0 ≡ getD h j 0
     kept j b s t = late j b ∙ w .other j s t
 
     -- a cell of another bucket's chain is not the one that is written
-    head-apart : (j : ℕ) → j < 2 * cap → (j ≡ k → ⊥) → Spot (inBucket cap k es) (length es) cap k (un .cell) (un .before .upper) → headPlace j ≡ un .cell → ⊥
+    head-apart : (j : ℕ) → j < cap → (j ≡ k → ⊥) → Spot (inBucket cap k es) (length es) cap k (un .cell) (un .before .upper) → headPlace j ≡ un .cell → ⊥
     head-apart j jb n (inl s) e = n (omega (arith, s .0))
     head-apart j jb n (inr s) e = omega (arith, s .0)
 
@@ -239,7 +239,7 @@ module _ (cap l : ℕ) (es : List Event) (id : ℕ) (h f : List ℕ) (few : leng
       | no m ↦ sym (in-other j i m)
     ]
 
-    gone-chain : (j : ℕ) → j < 2 * cap → Chained (inBucket cap j (set es id (killed (eventAt es id)))) (length es) cap j g
+    gone-chain : (j : ℕ) → j < cap → Chained (inBucket cap j (set es id (killed (eventAt es id)))) (length es) cap j g
     gone-chain j jb = elim (ℕ-discrete j k) [
       | yes n ↦
           subst (λ (x : ℕ). Chained (inBucket cap x (set es id (killed (eventAt es id)))) (length es) cap x g) (sym n)

@@ -42,7 +42,7 @@ use Rattle.history.proofs.AxisWords.{x-value, z-value}
 -- ---- sizes
 
 -- the counts stand in the words
-pub counts-fit : (f : Form) (n cap l : ℕ) (h : List ℕ) → Sized (formOf f) n cap l h → 2 + 7 * cap + cap * (2 * l) + (cap + 63) / 64 ≤ length h
+pub counts-fit : (f : Form) (n cap l : ℕ) (h : List ℕ) → Sized (formOf f) n cap l h → 2 + 6 * cap + cap * (2 * l) + (cap + 63) / 64 ≤ length h
 unfolding words historyRoom
 counts-fit f n cap l h s = omega (arith, s .long)
 
@@ -63,7 +63,7 @@ pub at-sliced : (P : model.Form → Type 0) (f : Form) → f ≡ forms.Sliced �
 unfolding formOf
 at-sliced P f e p = subst (λ (g : Form). P (formOf g)) (sym e) p
 
-pub scalar-long : (n cap l : ℕ) (h : List ℕ) → Sized model.scalar n cap l h → length h ≡ 2 + 7 * cap + cap * (2 * l) + (cap + 63) / 64 + 2 * 64 + 64 * cap
+pub scalar-long : (n cap l : ℕ) (h : List ℕ) → Sized model.scalar n cap l h → length h ≡ 2 + 6 * cap + cap * (2 * l) + (cap + 63) / 64 + 2 * 64 + 64 * cap
 unfolding words historyRoom listCount listSize
 scalar-long n cap l h s = s .long
 
@@ -71,7 +71,7 @@ pub scalar-rooms : (n cap l : ℕ) (h : List ℕ) → Sized model.scalar n cap l
 unfolding words listCount
 scalar-rooms n cap l h s = record { counts = omega arith; fits = omega (arith, scalar-long n cap l h s) }
 
-pub sliced-long : (n cap l : ℕ) (h : List ℕ) → Sized model.sliced n cap l h → length h ≡ 2 + 7 * cap + cap * (2 * l) + (cap + 63) / 64 + 2 * n + n * slicedRoom cap n
+pub sliced-long : (n cap l : ℕ) (h : List ℕ) → Sized model.sliced n cap l h → length h ≡ 2 + 6 * cap + cap * (2 * l) + (cap + 63) / 64 + 2 * n + n * slicedRoom cap n
 unfolding words historyRoom listCount listSize
 sliced-long n cap l h s = s .long
 

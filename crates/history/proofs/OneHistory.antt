@@ -58,7 +58,7 @@ module _ (h g : List ℕ) (fh : (i : ℕ) → getD h i 0 < 2 ^ 64) (fg : (i : �
   -- ---- events
 
   body-one : (b : Body) (live : Bool) (cap i k : ℕ) → 1 ≤ cap → LabelAt h (labelPlace cap i) b → LabelAt g (labelPlace cap i) b
-      → ((c : ℕ) → c < 2 * cap → live ≡ true → bodyIn cap c b ≡ true → getD h (linkPlace cap i) 0 ≡ getD g (linkPlace cap i) 0) → OfBody b live cap i k → getD h k 0 ≡ getD g k 0
+      → ((c : ℕ) → c < cap → live ≡ true → bodyIn cap c b ≡ true → getD h (linkPlace cap i) 0 ≡ getD g (linkPlace cap i) 0) → OfBody b live cap i k → getD h k 0 ≡ getD g k 0
   unfolding bodyIn
   body-one (rotation tag sgn label) true cap i k some p q link u =
       ⊎-elim (λ (e : k ≡ linkPlace cap i). same-at k (linkPlace cap i) e (link (bucketOf cap (label .low)) (bucket-lt cap (label .low) some) refl (eq-eqb (bucketOf cap (label .low)) (bucketOf cap (label .low)) refl)))
@@ -79,7 +79,7 @@ module _ (h g : List ℕ) (fh : (i : ℕ) → getD h i 0 < 2 ^ 64) (fg : (i : �
       (⊎-elim (λ (e : k ≡ sigPlace cap + i). same-at k (sigPlace cap + i) e (p .signed i lt ∙ sym (q .signed i lt)))
       (axis-one cap l i k (m .events) lt (p .axed) (q .axed)))) u
     where
-      link : (c : ℕ) → c < 2 * cap → eventAt (m .events) i .live ≡ true → bodyIn cap c (eventAt (m .events) i .body) ≡ true → getD h (linkPlace cap i) 0 ≡ getD g (linkPlace cap i) 0
+      link : (c : ℕ) → c < cap → eventAt (m .events) i .live ≡ true → bodyIn cap c (eventAt (m .events) i .body) ≡ true → getD h (linkPlace cap i) 0 ≡ getD g (linkPlace cap i) 0
       link c lc v t =
           let b : inBucket cap c (m .events) i ≡ true = in-its-bucket cap c (m .events) i v t in
           p .chains c lc .link i lt b ∙ sym (q .chains c lc .link i lt b)
@@ -151,11 +151,11 @@ module _ (h g : List ℕ) (fh : (i : ℕ) → getD h i 0 < 2 ^ 64) (fg : (i : �
   -- ---- all of it
 
   -- a word before the links: a count or a head
-  front-one : (f : Form) (n cap l : ℕ) (m : State) → Holds f n cap l m h → Holds f n cap l m g → (k : ℕ) → k < 2 + 2 * cap → getD h k 0 ≡ getD g k 0
+  front-one : (f : Form) (n cap l : ℕ) (m : State) → Holds f n cap l m h → Holds f n cap l m g → (k : ℕ) → k < 2 + cap → getD h k 0 ≡ getD g k 0
   front-one f n cap l m p q k lt = elim (decLt k 2) [
     | yes d ↦ same-two 0 k (p .count ∙ sym (q .count)) (p .cleared ∙ sym (q .cleared)) (omega arith, omega arith)
     | no d ↦
-        let there : k - 2 < 2 * cap = omega arith in
+        let there : k - 2 < cap = omega arith in
         same-at k (2 + (k - 2)) (omega arith) (p .chains (k - 2) there .head ∙ sym (q .chains (k - 2) there .head))
   ]
 

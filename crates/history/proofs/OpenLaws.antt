@@ -72,11 +72,11 @@ unfolding formOf listCount
 count-sliced f n e = ap (λ (g : Form). listCount (formOf g) n) (sym e)
 
 -- the words have room for the heads, and for the counts of the lists
-pub heads-fit : (f : model.Form) (n cap l : ℕ) (h : List ℕ) → Sized f n cap l h → 2 + 2 * cap ≤ length h
+pub heads-fit : (f : model.Form) (n cap l : ℕ) (h : List ℕ) → Sized f n cap l h → 2 + cap ≤ length h
 unfolding historyRoom
 heads-fit f n cap l h s = omega (arith, s .long)
 
-pub lists-fit : (f : model.Form) (n cap l : ℕ) (h : List ℕ) → Sized f n cap l h → 2 + 7 * cap + cap * (2 * l) + (cap + 63) / 64 + 2 * listCount f n ≤ length h
+pub lists-fit : (f : model.Form) (n cap l : ℕ) (h : List ℕ) → Sized f n cap l h → 2 + 6 * cap + cap * (2 * l) + (cap + 63) / 64 + 2 * listCount f n ≤ length h
 unfolding words historyRoom
 lists-fit f n cap l h s = omega (arith, s .long)
 
@@ -137,8 +137,8 @@ module _ (f : model.Form) (n cap l : ℕ) (o : Opening) (form : o .form ≡ f) (
   opened-many = length-replicate {A = List ℕ} (listCount (o .form) (o .n)) [] ∙ count-as
 
   module _ (planes : words (o .n) ≡ l) (capacity : o .capacity ≡ cap) (h h1 g : List ℕ) (long : length h ≡ historyRoom f n cap l)
-      (w1 : Written h 0 (2 + 2 * cap) (λ i. 0) h1) (w2 : Written h1 (countPlace cap l) (2 * listCount f n) (λ i. 0) g) where
-    heads-clear : (k : ℕ) → k < 2 + 2 * cap → getD g k 0 ≡ 0
+      (w1 : Written h 0 (2 + cap) (λ i. 0) h1) (w2 : Written h1 (countPlace cap l) (2 * listCount f n) (λ i. 0) g) where
+    heads-clear : (k : ℕ) → k < 2 + cap → getD g k 0 ≡ 0
     heads-clear k b = w2 .kept k (inl (omega arith)) ∙ ap (λ (i : ℕ). getD h1 i 0) (sym (zero-add k)) ∙ w1 .here k b
 
     counts-clear : (j : ℕ) → j < 2 * listCount f n → getD g (countPlace cap l + j) 0 ≡ 0
@@ -175,8 +175,8 @@ module _ (f : model.Form) (n cap l : ℕ) (o : Opening) (form : o .form ≡ f) (
           ]
         ]
 
-    past-heads : (k : ℕ) → (k < 2 + 2 * cap → ⊥) → 0 + (2 + 2 * cap) ≤ k
-    past-heads k off = elim (decLt k (2 + 2 * cap)) [
+    past-heads : (k : ℕ) → (k < 2 + cap → ⊥) → 0 + (2 + cap) ≤ k
+    past-heads k off = elim (decLt k (2 + cap)) [
       | yes d ↦ absurd (off d)
       | no d ↦ omega arith
     ]
@@ -191,8 +191,8 @@ module _ (f : model.Form) (n cap l : ℕ) (o : Opening) (form : o .form ≡ f) (
     }
 
 -- what `fresh` leaves
-pub fresh-becomes : (f : model.Form) (n cap l lists : ℕ) (h h1 g : List ℕ) → lists ≡ listCount f n → Sized f n cap l h → Written h 0 (2 + 2 * cap) (λ i. 0) h1
-    → Written h1 (2 + 7 * cap + cap * (2 * l) + (cap + 63) / 64) (2 * lists) (λ i. 0) g
+pub fresh-becomes : (f : model.Form) (n cap l lists : ℕ) (h h1 g : List ℕ) → lists ≡ listCount f n → Sized f n cap l h → Written h 0 (2 + cap) (λ i. 0) h1
+    → Written h1 (2 + 6 * cap + cap * (2 * l) + (cap + 63) / 64) (2 * lists) (λ i. 0) g
     → (o : Opening) → o .form ≡ f → o .n ≡ n → words (o .n) ≡ l → o .capacity ≡ cap → Becomes f n cap l (opened o) h g
 unfolding words
 fresh-becomes f n cap l lists h h1 g e s w1 w2 o form qubits planes capacity =

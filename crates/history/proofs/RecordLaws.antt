@@ -26,7 +26,7 @@ use Rattle.history.proofs.StayLaws.{lists-stay, events-stay, lists-behi
 -- a new event's words stand behind the two counts and before the lists
 pub taken-inside : (e : Event) (cap l id k : ℕ) → id < cap → TakenBy e cap l id k → (2 ≤ k) × (k < countPlace cap l)
 taken-inside e cap l id k b =
-    ⊎-elim (λ (q : Among 2 (2 * cap) k). (omega arith, omega arith))
+    ⊎-elim (λ (q : Among 2 cap k). (omega arith, omega arith))
     (⊎-elim
     (⊎-elim
     (λ q. ⊎-elim (λ (q : k ≡ linkPlace cap id). (omega arith, omega arith)) (λ (q : Among (labelPlace cap id) 2 k). (omega arith, omega arith)) (of-body (e .body) (e .live) cap id k q))
@@ -64,7 +64,7 @@ lists-held f n cap l m e h g c s room st = record {
 taken-used : (f : model.Form) (n cap l : ℕ) (m : State) (e : Event) (k : ℕ) → TakenBy e cap l (length (m .events)) k → Uses f n cap l (record1 e m) k
 unfolding record1
 taken-used f n cap l m e k =
-    ⊎-elim (λ (q : Among 2 (2 * cap) k). inl (omega arith))
+    ⊎-elim (λ (q : Among 2 cap k). inl (omega arith))
     (⊎-elim (λ (q : OfEvent e cap l (length (m .events)) k).
     inr (inl (length (m .events), omega (arith, length-new (m .events) e), subst (λ (a : Event). OfEvent a cap l (length (m .events)) k) (sym (at-new (m .events) e)) q)))
     (λ (q : k ≡ alivePlace cap l + length (m .events) / 64). inr (inr (inl (omega arith, unfold words in omega (arith, length-new (m .events) e))))))

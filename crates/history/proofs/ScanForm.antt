@@ -64,7 +64,7 @@ module _ (f : model.Form) (n cap l : ℕ) (h : List ℕ) (sized : Sized f n cap 
   unfolding historyRoom
   lists-inside = omega (arith, sized .long)
 
-  pub counts-inside : 2 + 7 * cap + cap * (2 * l) + (cap + 63) / 64 ≤ length h
+  pub counts-inside : 2 + 6 * cap + cap * (2 * l) + (cap + 63) / 64 ≤ length h
   unfolding words
   counts-inside = omega (arith, lists-inside)
 

@@ -42,7 +42,7 @@ alive-inside cap l id h = omega arith
 pub axes-apart : (l i j : ℕ) → i < j → i * (2 * l) + 2 * l ≤ j * (2 * l)
 axes-apart l i j h = omega (arith, suc-mul i (2 * l), mul-le-mul-right (2 * l) h)
 
-pub bucket-lt : (cap low : ℕ) → 1 ≤ cap → bucketOf cap low < 2 * cap
+pub bucket-lt : (cap low : ℕ) → 1 ≤ cap → bucketOf cap low < cap
 unfolding bucketOf
 bucket-lt cap low h = omega (arith, half-times low cap h)
 
@@ -74,48 +74,48 @@ top-fits w b bit l e =
 -- ---- `note` and `put_label`
 
 module _ (h g axis : List ℕ) (l cap id sig word bit : ℕ) (room : countPlace cap l ≤ length h) (small : id < cap) (long : length axis ≡ 2 * l) (is : bit ≡ 2 ^ (id % 64))
-    (w : Written h (2 + 7 * cap + id * (2 * l)) (length axis) (λ i. getD axis i 0) g) where
+    (w : Written h (2 + 6 * cap + id * (2 * l)) (length axis) (λ i. getD axis i 0) g) where
   g1 : List ℕ
-  g1 = set g (2 + 6 * cap + id) sig
+  g1 = set g (2 + 5 * cap + id) sig
 
   g2 : List ℕ
   unfolding g1
-  g2 = set g1 (2 + 5 * cap + id) word
+  g2 = set g1 (2 + 4 * cap + id) word
 
   pub noted : Noted h l cap id axis sig word
-      (set (set (set g (2 + 6 * cap + id) sig) (2 + 5 * cap + id) word) (2 + 7 * cap + cap * (2 * l) + id / 64)
-      (getD (set (set g (2 + 6 * cap + id) sig) (2 + 5 * cap + id) word) (2 + 7 * cap + cap * (2 * l) + id / 64) 0 % bit + bit))
+      (set (set (set g (2 + 5 * cap + id) sig) (2 + 4 * cap + id) word) (2 + 6 * cap + cap * (2 * l) + id / 64)
+      (getD (set (set g (2 + 5 * cap + id) sig) (2 + 4 * cap + id) word) (2 + 6 * cap + cap * (2 * l) + id / 64) 0 % bit + bit))
   unfolding g1 g2
   noted = record {
     axis-words = λ i b.
         let k : ℕ = axisPlace cap + id * (2 * l) + i in
         getD-set-other g2 alive k top 0 (λ e. omega (arith, inside))
-        ∙ getD-set-other g1 (2 + 5 * cap + id) k word 0 (λ e. omega arith)
-        ∙ getD-set-other g (2 + 6 * cap + id) k sig 0 (λ e. omega arith)
+        ∙ getD-set-other g1 (2 + 4 * cap + id) k word 0 (λ e. omega arith)
+        ∙ getD-set-other g (2 + 5 * cap + id) k sig 0 (λ e. omega arith)
         ∙ w .here i (omega arith);
     sig-word =
-        getD-set-other g2 alive (2 + 6 * cap + id) top 0 (λ e. omega arith)
-        ∙ getD-set-other g1 (2 + 5 * cap + id) (2 + 6 * cap + id) word 0 (λ e. omega arith)
-        ∙ getD-set-same g (2 + 6 * cap + id) sig 0 (omega (arith, w .same-length, live-in));
-    tag-word =
         getD-set-other g2 alive (2 + 5 * cap + id) top 0 (λ e. omega arith)
-        ∙ getD-set-same g1 (2 + 5 * cap + id) word 0 (simp length-set (omega (arith, w .same-length, live-in)));
+        ∙ getD-set-other g1 (2 + 4 * cap + id) (2 + 5 * cap + id) word 0 (λ e. omega arith)
+        ∙ getD-set-same g (2 + 5 * cap + id) sig 0 (omega (arith, w .same-length, live-in));
+    tag-word =
+        getD-set-other g2 alive (2 + 4 * cap + id) top 0 (λ e. omega arith)
+        ∙ getD-set-same g1 (2 + 4 * cap + id) word 0 (simp length-set (omega (arith, w .same-length, live-in)));
     live-word =
         getD-set-same g2 alive top 0 (simp length-set (omega (arith, w .same-length, live-in)))
         ∙ ap₂ (λ (x y : ℕ). x % y + y)
-        (getD-set-other g1 (2 + 5 * cap + id) alive word 0 (λ e. omega arith) ∙ getD-set-other g (2 + 6 * cap + id) alive sig 0 (λ e. omega arith)
+        (getD-set-other g1 (2 + 4 * cap + id) alive word 0 (λ e. omega arith) ∙ getD-set-other g (2 + 5 * cap + id) alive sig 0 (λ e. omega arith)
         ∙ w .kept alive (inr (omega (arith, inside))))
         is;
     other = λ k a s t v.
         getD-set-other g2 alive k top 0 v
-        ∙ getD-set-other g1 (2 + 5 * cap + id) k word 0 t
-        ∙ getD-set-other g (2 + 6 * cap + id) k sig 0 s
+        ∙ getD-set-other g1 (2 + 4 * cap + id) k word 0 t
+        ∙ getD-set-other g (2 + 5 * cap + id) k sig 0 s
         ∙ w .kept k (apart k a);
-    long = length-set g2 alive top ∙ length-set g1 (2 + 5 * cap + id) word ∙ length-set g (2 + 6 * cap + id) sig ∙ w .same-length;
+    long = length-set g2 alive top ∙ length-set g1 (2 + 4 * cap + id) word ∙ length-set g (2 + 5 * cap + id) sig ∙ w .same-length;
   }
     where
       alive : ℕ
-      alive = 2 + 7 * cap + cap * (2 * l) + id / 64
+      alive = 2 + 6 * cap + cap * (2 * l) + id / 64
 
       top : ℕ
       top = getD g2 alive 0 % bit + bit
@@ -127,18 +127,18 @@ module _ (h g axis : List ℕ) (l cap id sig word bit : ℕ) (room : countPlace 
       live-in = alive-inside cap l id small
 
       apart : (k : ℕ) → (Among (axisPlace cap + id * (2 * l)) (2 * l) k → ⊥)
-          → (k < 2 + 7 * cap + id * (2 * l)) ⊎ (2 + 7 * cap + id * (2 * l) + length axis ≤ k)
+          → (k < 2 + 6 * cap + id * (2 * l)) ⊎ (2 + 6 * cap + id * (2 * l) + length axis ≤ k)
       apart k a =
-          elim (decLt k (2 + 7 * cap + id * (2 * l))) [
+          elim (decLt k (2 + 6 * cap + id * (2 * l))) [
             | yes d ↦ inl d
-            | no d ↦ elim (decLt k (2 + 7 * cap + id * (2 * l) + 2 * l)) [
+            | no d ↦ elim (decLt k (2 + 6 * cap + id * (2 * l) + 2 * l)) [
               | yes f ↦ absurd (a (omega arith, f))
               | no f ↦ inr (omega arith)
             ]
           ]
 
-pub labelled : (h : List ℕ) (cap id high low k : ℕ) (g : List ℕ) → 2 + 5 * cap ≤ length h → id < cap → k < 2 * cap → k ≡ bucketOf cap low
-    → Linked (set (set h (2 + 3 * cap + 2 * id) high) (2 + 3 * cap + 2 * id + 1) low) cap k id g → Labelled h cap id high low g
+pub labelled : (h : List ℕ) (cap id high low k : ℕ) (g : List ℕ) → 2 + 4 * cap ≤ length h → id < cap → k < cap → k ≡ bucketOf cap low
+    → Linked (set (set h (2 + 2 * cap + 2 * id) high) (2 + 2 * cap + 2 * id + 1) low) cap k id g → Labelled h cap id high low g
 labelled h cap id high low k g room small kb e lk = record {
   high-word = lk .other at (λ q. omega arith) (λ q. omega arith) ∙ getD-set-other h1 (at + 1) at low 0 (λ q. omega arith) ∙ getD-set-same h at high 0 (omega arith);
   low-word = lk .other (at + 1) (λ q. omega arith) (λ q. omega arith) ∙ getD-set-same h1 (at + 1) low 0 (simp length-set (omega arith));
@@ -149,7 +149,7 @@ labelled h cap id high low k g room small kb e lk = record {
 }
   where
     at : ℕ
-    at = 2 + 3 * cap + 2 * id
+    at = 2 + 2 * cap + 2 * id
 
     h1 : List ℕ
     h1 = set h at high
@@ -169,8 +169,8 @@ pub record Put (cap l id : ℕ) (e : Event) (h g : List ℕ) : Type 0 where
   pub x-words : valueAt g (axisPlace cap + id * (2 * l)) l ≡ e .x
   pub z-words : valueAt g (axisPlace cap + id * (2 * l) + l) l ≡ e .z
   pub live-word : getD g (alivePlace cap l + id / 64) 0 ≡ getD h (alivePlace cap l + id / 64) 0 % 2 ^ (id % 64) + 2 ^ (id % 64)
-  pub head-in : (k : ℕ) → k < 2 * cap → bodyIn cap k (e .body) ≡ true → (getD g (headPlace k) 0 ≡ suc id) × (getD g (linkPlace cap id) 0 ≡ getD h (headPlace k) 0)
-  pub head-out : (k : ℕ) → k < 2 * cap → bodyIn cap k (e .body) ≡ false → getD g (headPlace k) 0 ≡ getD h (headPlace k) 0
+  pub head-in : (k : ℕ) → k < cap → bodyIn cap k (e .body) ≡ true → (getD g (headPlace k) 0 ≡ suc id) × (getD g (linkPlace cap id) 0 ≡ getD h (headPlace k) 0)
+  pub head-out : (k : ℕ) → k < cap → bodyIn cap k (e .body) ≡ false → getD g (headPlace k) 0 ≡ getD h (headPlace k) 0
 
 -- the axis that `note` writes
 module _ (h g axis : List ℕ) (l cap id sig word : ℕ) (e : Event) (long : length axis ≡ 2 * l) (n : Noted h l cap id axis sig word g) where
@@ -209,11 +209,11 @@ of-rotation e tag sgn label cap id k b v t =
 module _ (h f g axis : List ℕ) (l cap id sig tag : ℕ) (sgn : ℤ) (high low : ℕ) (e : Event) (some : 1 ≤ cap) (small : id < cap) (long : length axis ≡ 2 * l) (v : e .live ≡ true)
     (b : e .body ≡ rotation tag sgn (labelOf high low)) (few : tag < 2 ^ 32) (x : ofRow 0 axis .x ≡ e .x) (z : ofRow 0 axis .z ≡ e .z) (s : sig ≡ signature l (e .x) (e .z))
     (n : Noted h l cap id axis sig (4 * tag + code sgn) f) (p : Labelled f cap id high low g) where
-  head-kept : (k : ℕ) → k < 2 * cap → getD f (headPlace k) 0 ≡ getD h (headPlace k) 0
+  head-kept : (k : ℕ) → k < cap → getD f (headPlace k) 0 ≡ getD h (headPlace k) 0
   head-kept k kb = n .other (headPlace k) (λ q. omega arith) (λ q. omega arith) (λ q. omega arith) (λ q. omega arith)
 
   -- past the links and the labels nothing but `note` writes
-  late : (k : ℕ) → 2 + 5 * cap ≤ k → getD g k 0 ≡ getD f k 0
+  late : (k : ℕ) → 2 + 4 * cap ≤ k → getD g k 0 ≡ getD f k 0
   late k a = p .other k (λ q. omega arith) (λ q. omega (arith, bucket-lt cap low some)) (λ q. omega arith)
 
   bucket-yes : (k : ℕ) → bodyIn cap k (e .body) ≡ true → bucketOf cap low ≡ k
@@ -251,8 +251,8 @@ module _ (h f g axis : List ℕ) (l cap id sig tag : ℕ) (sgn : ℤ) (high low 
       of : (k : ℕ) → (k ≡ linkPlace cap id) ⊎ Among (labelPlace cap id) 2 k → OfBody (e .body) (e .live) cap id k
       of k = of-rotation e tag sgn (labelOf high low) cap id k b v
 
-      among : (k : ℕ) → k ≡ headPlace (bucketOf cap low) → Among 2 (2 * cap) k
-      among k q = let t : bucketOf cap low < 2 * cap = bucket-lt cap low some in (omega arith, omega arith)
+      among : (k : ℕ) → k ≡ headPlace (bucketOf cap low) → Among 2 cap k
+      among k q = let t : bucketOf cap low < cap = bucket-lt cap low some in (omega arith, omega arith)
 
 -- ---- what the words hold then
 
@@ -261,10 +261,10 @@ of-body (rotation tag sgn label) true cap id k t = t
 of-body (rotation tag sgn label) false cap id k t = inr t
 of-body blocker live cap id k t = absurd t
 
-away : (e : Event) (cap l id k : ℕ) → 2 + 2 * cap ≤ k → (k ≡ linkPlace cap id → ⊥) → (Among (labelPlace cap id) 2 k → ⊥) → (k ≡ tagPlace cap id → ⊥) → (k ≡ sigPlace cap + id → ⊥)
+away : (e : Event) (cap l id k : ℕ) → 2 + cap ≤ k → (k ≡ linkPlace cap id → ⊥) → (Among (labelPlace cap id) 2 k → ⊥) → (k ≡ tagPlace cap id → ⊥) → (k ≡ sigPlace cap + id → ⊥)
     → (Among (axisPlace cap + id * (2 * l)) (2 * l) k → ⊥) → (k ≡ alivePlace cap l + id / 64 → ⊥) → TakenBy e cap l id k → ⊥
 away e cap l id k a b c d f g i t =
-    ⊎-elim (λ (q : Among 2 (2 * cap) k). omega arith)
+    ⊎-elim (λ (q : Among 2 cap k). omega arith)
     (⊎-elim (⊎-elim (λ q. ⊎-elim b c (of-body (e .body) (e .live) cap id k q)) (⊎-elim d (⊎-elim f g))) i)
     t
 
@@ -309,7 +309,7 @@ module _ (cap l : ℕ) (es : List Event) (e : Event) (h g : List ℕ) (small : l
   live-past i b = ap (λ (w : Event). w .live) (List·getD-eq-default (es ++ (e ∷ [])) noEvent (omega (arith, length-new es e)))
 
   -- words of older events
-  kept : (k : ℕ) → 2 + 2 * cap ≤ k → (k ≡ linkPlace cap (length es) → ⊥) → (Among (labelPlace cap (length es)) 2 k → ⊥) → (k ≡ tagPlace cap (length es) → ⊥) → (k ≡ sigPlace cap + length es → ⊥)
+  kept : (k : ℕ) → 2 + cap ≤ k → (k ≡ linkPlace cap (length es) → ⊥) → (Among (labelPlace cap (length es)) 2 k → ⊥) → (k ≡ tagPlace cap (length es) → ⊥) → (k ≡ sigPlace cap + length es → ⊥)
       → (Among (axisPlace cap + length es * (2 * l)) (2 * l) k → ⊥) → (k ≡ alivePlace cap l + length es / 64 → ⊥) → getD g k 0 ≡ getD h k 0
   kept k a b c d f x i = p .only .kept k (away e cap l (length es) k a b c d f x i)
 

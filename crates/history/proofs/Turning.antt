@@ -139,7 +139,7 @@ module _ (m : State) (cap high low x z : ℕ) (whole : Walk) where
     picked = λ b. let s : newest p′ n ≡ suc (newest p′ n - 1) = omega arith in newest-hit p′ n (newest p′ n - 1) s .1;
   }
 
-  pub cursor-begins : (f : Form) (n l : ℕ) (h : List ℕ) (budget : Budget) → Holds f n cap l m h → bucketOf cap low < 2 * cap
+  pub cursor-begins : (f : Form) (n l : ℕ) (h : List ℕ) (budget : Budget) → Holds f n cap l m h → bucketOf cap low < cap
       → whole ≡ walk (phase1 m (labelOf high low) x z) (budget .0) → Cursor m cap high low x z whole (getD h (2 + bucketOf cap low) 0) budget
   cursor-begins f n l h budget holds b w =
       subst (λ (c : ℕ). Cursor m cap high low x z whole c budget) (sym (holds .chains (bucketOf cap low) b .head))

@@ -29,7 +29,7 @@ pub record Dying (es : List Event) (id : ℕ) : Type 0 where
 -- the words that a death takes, the lists aside: a head or the link of a live rotation, the event's signature, and a word of the live set
 abbrev pub LeftBy : (cap l : ℕ) → List Event → (id k : ℕ) → Type 0
 LeftBy cap l es id k =
-    Among 2 (2 * cap) k
+    Among 2 cap k
     ⊎ (((j : ℕ) × (j < length es) × (liveAt es j ≡ true) × (isRotation (eventAt es j .body) ≡ true) × (j ≡ id → ⊥) × (k ≡ linkPlace cap j))
     ⊎ ((k ≡ sigPlace cap + id) ⊎ (k ≡ alivePlace cap l + id / 64)))
 

@@ -1,4 +1,4 @@
--- Chains of rotations whose labels fall into one bucket, in the words of a slice (docs/STORE.md): from word 2 on 2 cap heads, one a bucket, then
+-- Chains of rotations whose labels fall into one bucket, in the words of a slice (docs/STORE.md): from word 2 on cap heads, one a bucket, then
 -- a link for each of cap events. A head or a link is an event's number plus 1, or 0 for none. Assumes nothing.
 use mathlib.Core.Path.{_≡_}
 use mathlib.Core.Logic.{_⊎_}
@@ -11,13 +11,13 @@ use Rattle.history.specs.declared.chains.Cell.the-variants.{At, Lost}
 
 -- the bucket of a label by its low word: a product and a shift in place of a division
 unfoldable pub bucketOf : (cap low : ℕ) → ℕ
-bucketOf cap low = low % 2 ^ 32 * (2 * cap) / 2 ^ 32
+bucketOf cap low = low % 2 ^ 32 * cap / 2 ^ 32
 
 abbrev pub headPlace : (k : ℕ) → ℕ
 headPlace k = 2 + k
 
 abbrev pub linkPlace : (cap i : ℕ) → ℕ
-linkPlace cap i = 2 + 2 * cap + i
+linkPlace cap i = 2 + cap + i
 
 -- the newest event below n that p picks, plus 1; or 0
 unfoldable pub newest : (ℕ → Bool) → (n : ℕ) → ℕ
@@ -51,7 +51,7 @@ Sought p n cap k id (At c) = Before p n cap k id c
 Sought p n cap k id Lost = ⊥
 
 abbrev pub Inside : (cap : ℕ) → Cell → Type 0
-Inside cap (At c) = c < 2 + 3 * cap
+Inside cap (At c) = c < 2 + 2 * cap
 Inside cap Lost = Unit {0}
 
 -- that cell has, in g, what stood behind the event id, and all other words are as they were

@@ -54,7 +54,7 @@ pub record Met (f : Form) (n : ℕ) (m : State) (cap l events cleared low i : �
   pub count : length (m .events) ≡ events
   pub past : m .cleared ≡ cleared
   pub picked : inBucket cap (bucketOf cap low) (m .events) i ≡ true
-  pub bucket : bucketOf cap low < 2 * cap
+  pub bucket : bucketOf cap low < cap
 
 -- a turn of phase 1 at event cur - 1, with `left` steps: what is left goes on with the next older event of the bucket, or ends
 abbrev pub Turn : State → (cap high low x z cur : ℕ) → Budget → Visit → Type 0

@@ -77,7 +77,7 @@ pub record Fresh (l : ℕ) (axis : List ℕ) (sig : ℕ) (body : Body) (e : Even
 
 -- the words that a new event e takes: its own, a head and a word of the set of live events
 abbrev pub TakenBy : Event → (cap l id k : ℕ) → Type 0
-TakenBy e cap l id k = Among 2 (2 * cap) k ⊎ (OfEvent e cap l id k ⊎ (k ≡ alivePlace cap l + id / 64))
+TakenBy e cap l id k = Among 2 cap k ⊎ (OfEvent e cap l id k ⊎ (k ≡ alivePlace cap l + id / 64))
 
 -- from h to g the events es become those and e
 pub record Stored (cap l : ℕ) (es : List Event) (e : Event) (h g : List ℕ) : Type 0 where

@@ -26,19 +26,19 @@ use Rattle.history.specs.Newest.{bucketOf, linkPlace, Chained}
 -- ---- places
 
 abbrev pub labelPlace : (cap i : ℕ) → ℕ
-labelPlace cap i = 2 + 3 * cap + 2 * i
+labelPlace cap i = 2 + 2 * cap + 2 * i
 
 abbrev pub tagPlace : (cap i : ℕ) → ℕ
-tagPlace cap i = 2 + 5 * cap + i
+tagPlace cap i = 2 + 4 * cap + i
 
 abbrev pub sigPlace : (cap : ℕ) → ℕ
-sigPlace cap = 2 + 6 * cap
+sigPlace cap = 2 + 5 * cap
 
 abbrev pub axisPlace : (cap : ℕ) → ℕ
-axisPlace cap = 2 + 7 * cap
+axisPlace cap = 2 + 6 * cap
 
 abbrev pub alivePlace : (cap l : ℕ) → ℕ
-alivePlace cap l = 2 + 7 * cap + cap * (2 * l)
+alivePlace cap l = 2 + 6 * cap + cap * (2 * l)
 
 abbrev pub countPlace : (cap l : ℕ) → ℕ
 countPlace cap l = alivePlace cap l + words cap
@@ -92,7 +92,7 @@ unfoldable pub inBucket : (cap k : ℕ) → List Event → ℕ → Bool
 inBucket cap k es i = liveAt es i && bodyIn cap k (eventAt es i .body)
 
 abbrev pub Chains : (cap : ℕ) → List Event → List ℕ → Type 0
-Chains cap es h = (k : ℕ) → k < 2 * cap → Chained (inBucket cap k es) (length es) cap k h
+Chains cap es h = (k : ℕ) → k < cap → Chained (inBucket cap k es) (length es) cap k h
 
 -- ---- lists
 
@@ -164,7 +164,7 @@ OfLists f n cap l m k = (b : ℕ) × (b < listCount f n) × OfList f n cap l b (
 
 abbrev pub Uses : Form → (n cap l : ℕ) → State → (k : ℕ) → Type 0
 Uses f n cap l m k =
-    (k < 2 + 2 * cap)
+    (k < 2 + cap)
     ⊎ (((i : ℕ) × (i < length (m .events)) × OfEvent (eventAt (m .events) i) cap l i k)
     ⊎ (Among (alivePlace cap l) (words (length (m .events))) k
     ⊎ OfLists f n cap l m k))

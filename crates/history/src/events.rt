@@ -53,7 +53,7 @@ pub fn read(h: &[u64], l: usize, cap: usize, id: usize) -> Told
     if events <= id {
         return Told::Nothing;
     }
-    let word = h[2 + 5 * cap + id];
+    let word = h[2 + 4 * cap + id];
     if word == 0 {
         return Told::Nothing;
     }
@@ -61,7 +61,7 @@ pub fn read(h: &[u64], l: usize, cap: usize, id: usize) -> Told
     if tag >= 0x100000000 {
         return Told::Bad;
     }
-    let live = contains(&h[2 + 7 * cap + cap * (2 * l)..], id);
+    let live = contains(&h[2 + 6 * cap + cap * (2 * l)..], id);
     if word % 4 == 1 {
         return Told::Says {
             tag: tag as u32,

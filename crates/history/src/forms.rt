@@ -32,7 +32,7 @@ pub fn push_lists(
     ensures long { λ r. ⌜ length (now (h .exit)) ≡ length (now (h .entry)) ⌝ }
     ensures done { λ r. ⌜ ((m : State) (e : Event) → ListsHeld (formOf form) n cap l m (now (h .entry)) → length (m .events) ≡ id → id < cap → Newcomer n l (now (axis .entry)) sig e → (r ≡ true) × ListsTo (formOf form) n cap l (record1 e m) (now (h .entry)) (now (h .exit))) ⌝ }
 {
-    let counts = 2 + 7 * cap + cap * (2 * l) + (cap + 63) / 64;
+    let counts = 2 + 6 * cap + cap * (2 * l) + (cap + 63) / 64;
     match form {
         Form::Scalar => support::families::push_scalar(
             h,
@@ -68,7 +68,7 @@ pub fn kill_lists(
     ensures long { λ r. ⌜ length (now (h .exit)) ≡ length (now (h .entry)) ⌝ }
     ensures done { λ r. ⌜ ((m : State) → ListsHeld (formOf form) n cap l m (now (h .entry)) → length (m .events) ≡ events → Leaving n cap l m id sig (now (h .entry)) → (r ≡ true) × ListsTo (formOf form) n cap l (kill id m) (now (h .entry)) (now (h .exit))) ⌝ }
 {
-    let alive = 2 + 7 * cap + cap * (2 * l);
+    let alive = 2 + 6 * cap + cap * (2 * l);
     let counts = alive + (cap + 63) / 64;
     match form {
         Form::Scalar => support::families::kill_scalar(
@@ -93,7 +93,7 @@ pub fn kill_lists(
                 sig,
                 id as u64,
                 alive,
-                2 + 7 * cap,
+                2 + 6 * cap,
                 events,
             )
         }
@@ -115,7 +115,7 @@ pub fn scan_lists(
     requires { ⌜ Sized (formOf form) n cap l (now h) × (length (now axis) ≡ 2 * l) × (events ≤ cap) ⌝ }
     ensures { λ r. ⌜ ((m : State) → ListsHeld (formOf form) n cap l m (now (h .entry)) → Scanned cap l m events (now (h .entry)) → ofRow 0 (now (axis .entry)) .x < 2 ^ n → ofRow 0 (now (axis .entry)) .z < 2 ^ n → r ≡ scanOf (walk (phase2 m after (ofRow 0 (now (axis .entry)) .x) (ofRow 0 (now (axis .entry)) .z)) (budget .0))) ⌝ }
 {
-    let counts = 2 + 7 * cap + cap * (2 * l) + (cap + 63) / 64;
+    let counts = 2 + 6 * cap + cap * (2 * l) + (cap + 63) / 64;
     match form {
         Form::Scalar => {
             let sig = signature(axis, l);
@@ -124,8 +124,8 @@ pub fn scan_lists(
                 counts,
                 counts + 2 * 64,
                 cap,
+                2 + 5 * cap,
                 2 + 6 * cap,
-                2 + 7 * cap,
                 l,
                 events,
                 axis,

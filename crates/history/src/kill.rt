@@ -23,10 +23,10 @@ fn drop_event(h: &mut [u64], l: usize, cap: usize, id: usize) -> bool
     ensures long { λ r. ⌜ length (now (h .exit)) ≡ length (now (h .entry)) ⌝ }
     ensures done { λ r. ⌜ ((es : List Event) → EventsHeld cap l es (now (h .entry)) → length es ≤ cap → Dying es id → (r ≡ true) × Gone cap l es id (now (h .entry)) (now (h .exit))) ⌝ }
 {
-    let alive = 2 + 7 * cap + cap * (2 * l) + id / 64;
-    let low = h[2 + 3 * cap + 2 * id + 1];
+    let alive = 2 + 6 * cap + cap * (2 * l) + id / 64;
+    let low = h[2 + 2 * cap + 2 * id + 1];
     h[alive] &= !(1u64 << (id % 64));
-    h[2 + 6 * cap + id] = 0;
+    h[2 + 5 * cap + id] = 0;
     unlink(h, cap, bucket(low, cap), id)
 }
 
@@ -40,7 +40,7 @@ fn kill_live(h: &mut [u64], form: Form, n: usize, l: usize, cap: usize, id: usiz
     if cap < events {
         return false;
     }
-    let sig = h[2 + 6 * cap + id];
+    let sig = h[2 + 5 * cap + id];
     if drop_event(h, l, cap, id) {
         return kill_lists(h, form, n, l, cap, id, sig, events);
     }

@@ -38,13 +38,13 @@ fn spent(allowance: u32, left: Budget) -> u32
 
 // The partner `id` of an axis with this sign, after so many steps: the relative sign is the product of both.
 fn partner(h: &[u64], cap: usize, id: usize, sign: i8, steps: u32) -> Seen
-    requires { ⌜ (2 + 6 * cap ≤ length (now h)) × IsSign sign ⌝ }
+    requires { ⌜ (2 + 5 * cap ≤ length (now h)) × IsSign sign ⌝ }
     ensures { λ r. ⌜ Partner (now (h .entry)) cap id sign steps r ⌝ }
 {
     if cap <= id {
         return Seen::Bad;
     }
-    let kind = h[2 + 5 * cap + id] % 4;
+    let kind = h[2 + 4 * cap + id] % 4;
     if kind == 1 {
         let both = product(1, sign);
         return Seen::Found {

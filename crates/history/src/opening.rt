@@ -23,8 +23,8 @@ pub fn fresh(h: &mut [u64], form: Form, n: usize, l: usize, cap: usize)
     requires { ⌜ Sized (formOf form) n cap l (now h) ⌝ }
     ensures { λ _. ⌜ ((o : Opening) → o .form ≡ formOf form → o .n ≡ n → words (o .n) ≡ l → o .capacity ≡ cap → Becomes (formOf form) n cap l (opened o) (now (h .entry)) (now (h .exit))) ⌝ }
 {
-    let counts = 2 + 7 * cap + cap * (2 * l) + (cap + 63) / 64;
+    let counts = 2 + 6 * cap + cap * (2 * l) + (cap + 63) / 64;
     let lists = list_count(form, n);
-    pauli::fill::clear(h, 0, 2 + 2 * cap);
+    pauli::fill::clear(h, 0, 2 + cap);
     pauli::fill::clear(h, counts, 2 * lists);
 }

@@ -21,20 +21,20 @@ fn note(h: &mut [u64], l: usize, cap: usize, id: usize, axis: &[u64], sig: u64, 
     requires { ⌜ (countPlace cap l ≤ length (now h)) × (id < cap) × (length (now axis) ≡ 2 * l) ⌝ }
     ensures { λ _. ⌜ Noted (now (h .entry)) l cap id (now (axis .entry)) sig word (now (h .exit)) ⌝ }
 {
-    let alive = 2 + 7 * cap + cap * (2 * l) + id / 64;
+    let alive = 2 + 6 * cap + cap * (2 * l) + id / 64;
     let bit = 1u64 << (id % 64);
-    pauli::fill::copy(h, 2 + 7 * cap + id * (2 * l), axis);
-    h[2 + 6 * cap + id] = sig;
-    h[2 + 5 * cap + id] = word;
+    pauli::fill::copy(h, 2 + 6 * cap + id * (2 * l), axis);
+    h[2 + 5 * cap + id] = sig;
+    h[2 + 4 * cap + id] = word;
     h[alive] = h[alive] % bit + bit;
 }
 
 // The label of the rotation `id`, which becomes the head of its bucket.
 fn put_label(h: &mut [u64], cap: usize, id: usize, high: u64, low: u64)
-    requires { ⌜ (2 + 5 * cap ≤ length (now h)) × (1 ≤ cap) × (cap ≤ 2 ^ 24) × (id < cap) ⌝ }
+    requires { ⌜ (2 + 4 * cap ≤ length (now h)) × (1 ≤ cap) × (cap ≤ 2 ^ 24) × (id < cap) ⌝ }
     ensures { λ _. ⌜ Labelled (now (h .entry)) cap id high low (now (h .exit)) ⌝ }
 {
-    let at = 2 + 3 * cap + 2 * id;
+    let at = 2 + 2 * cap + 2 * id;
     h[at] = high;
     h[at + 1] = low;
     link(h, cap, bucket(low, cap), id);

@@ -28,10 +28,10 @@ pub enum Visit {
 
 // The next older event of the chain after event cur - 1.
 fn onward(h: &[u64], cap: usize, cur: usize, left: Budget) -> Visit
-    requires { ⌜ (1 ≤ cur) × (cur ≤ cap) × (2 + 3 * cap ≤ length (now h)) ⌝ }
+    requires { ⌜ (1 ≤ cur) × (cur ≤ cap) × (2 + 2 * cap ≤ length (now h)) ⌝ }
     ensures { λ r. ⌜ Onward (now (h .entry)) cap cur left r ⌝ }
 {
-    let next = h[2 + 2 * cap + (cur - 1)] as usize;
+    let next = h[2 + cap + (cur - 1)] as usize;
     if next < cur {
         return Visit::On(next, left);
     }
@@ -62,7 +62,7 @@ fn turn(
     if id < cleared {
         return Visit::Stop(Cand::Nothing(left));
     }
-    let at = 2 + 3 * cap + 2 * id;
+    let at = 2 + 2 * cap + 2 * id;
     if h[at] != high {
         return onward(h, cap, cur, left);
     }
@@ -73,7 +73,7 @@ fn turn(
         Spent::Short => Visit::Stop(Cand::Out(left)),
         Spent::Left(rest) => {
             let words = 2 * l;
-            let from = 2 + 7 * cap + id * words;
+            let from = 2 + 6 * cap + id * words;
             if same(&h[from..from + words], axis) {
                 return Visit::Stop(Cand::Match(id, rest));
             }

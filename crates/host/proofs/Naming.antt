@@ -1,9 +1,10 @@
 -- What a number names, and what a promise about it comes to. Assumes nothing.
 use mathlib.Core.Path.{_≡_, sym, subst}
 use mathlib.Core.List.{List, map}
-use Prim.Native.Nat.{ℕ, zero, suc, _≤_, _<_}
+use Prim.Native.Nat.{ℕ, _≤_, _<_}
 use native.Mathlib.Omega.{arith}
 use lib.ListN.{length, length-map, List·getD-eq-default}
+use Rattle.pauli.proofs.Nots.{Nots, least}
 use Rattle.host.specs.Numbers.{Meant, known, unknown, named}
 use Rattle.host.specs.Host.{Lent, Named}
 
@@ -16,19 +17,10 @@ pub unnamed : {A : Type 0} (m : Meant A) (P : A → Type 0) (U : Type 0) → unk
 unfolding Named
 unnamed {A = A} m P U e h = subst (λ (x : Meant A). Named x P U) e h
 
--- a number that is none of the first n is at least n (what the last arm of a match knows)
-abbrev pub Nots : (k n : ℕ) → Type 0
-Nots k zero = Unit {0}
-Nots k (suc n) = Nots k n × (k ≡ n → ⊥)
-
-pub least : (k n : ℕ) → Nots k n → n ≤ k
-least k zero h = omega arith
-least k (suc n) h = let i = least k n (h .0) in let e = h .1 in omega arith
-
--- so it has no place in a list of n
-pub past : {A : Type 0} (xs : List A) (k : ℕ) → Nots k (length xs) → unknown ≡ named xs k
+-- a number that is none of the first n has no place in a list of n
+pub past : {A : Type 0} (xs : List A) (k : ℕ) → Nots k 0 (length xs) → unknown ≡ named xs k
 unfolding named
-past xs k h = sym (List·getD-eq-default (map known xs) unknown (subst (λ (n : ℕ). n ≤ k) (sym (length-map xs known)) (least k (length xs) h)))
+past xs k h = sym (List·getD-eq-default (map known xs) unknown (omega (arith, length-map xs known, least k 0 (length xs) (omega arith) h)))
 
 -- ---- an answer that takes so many words
 

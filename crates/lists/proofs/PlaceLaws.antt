@@ -1,5 +1,5 @@
 -- Where a number stands in a rising list: the ends of a halving, and what a place in a part says of the whole list. Assumes nothing.
-use mathlib.Core.Path.{_≡_, sym, ap, _∙_}
+use mathlib.Core.Path.{_≡_, sym, ap, _∙_, subst}
 use mathlib.Core.Logic.{⊎-elim}
 use mathlib.Core.List.{List}
 use Prim.Native.Nat.{ℕ, _+_, _-_, _≤_, _<_}
@@ -33,13 +33,30 @@ module _ (ids : List ℕ) (a : ℕ) where
     above = b .above;
   }
 
-  pub between-down : (lo hi mid : ℕ) → Between ids a lo hi → lo ≤ mid → mid < hi → a < getD ids mid 0 → Between ids a lo mid
-  between-down lo hi mid b l h e = record {
+  pub between-down : (lo hi mid to : ℕ) → Between ids a lo hi → lo ≤ to → mid ≤ to → to ≤ hi → a < getD ids mid 0 → Between ids a lo to
+  between-down lo hi mid to b l m h e = record {
     order = l;
     within = omega (arith, b .within);
     below = b .below;
     above = λ r k lk ln. ⊎-elim (λ (q : k ≡ mid). omega (arith, ap (λ (i : ℕ). getD ids i 0) q)) (λ d. omega (arith, r mid k (omega arith) ln)) (same? k mid);
   }
+
+  -- a turn of the halving at mid, by its step s
+  pub between-step : (lo len half mid s : ℕ) → Between ids a lo (lo + len) → mid + 1 ≡ lo + half → 1 ≤ half → half ≤ len → half - 1 ≤ len - half → (getD ids mid 0 ≤ a → s ≡ half) → (a < getD ids mid 0 → s ≡ 0)
+      → Between ids a (lo + s) (lo + s + (len - half))
+  between-step lo len half mid s b at some few low up down =
+      elim (decLt a (getD ids mid 0)) [
+        | yes d ↦
+            let e : s ≡ 0 = down d in
+            let f : lo ≡ lo + s = omega arith in
+            subst (λ (x : ℕ). Between ids a x (x + (len - half))) f (between-down lo (lo + len) mid (lo + (len - half)) b (omega arith) (omega arith) (omega arith) d)
+        | no d ↦
+            let e : s ≡ half = up (omega arith) in
+            let f : mid + 1 ≡ lo + s = omega arith in
+            let g : lo + len ≡ lo + s + (len - half) = omega arith in
+            subst (λ (x : ℕ). Between ids a x (lo + s + (len - half))) f
+            (subst (λ (y : ℕ). Between ids a (mid + 1) y) g (between-up lo (lo + len) mid b (omega arith) (omega arith) (omega arith)))
+      ]
 
   pub between-end : (lo hi : ℕ) → Between ids a lo hi → hi ≤ lo → Rises ids → Splits ids a lo
   between-end lo hi b h r = record {

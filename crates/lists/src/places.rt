@@ -1,7 +1,20 @@
 // Where a number stands in a rising list.
+ghost use mathlib.Core.Path.{_≡_};
 ghost use Prim.Native.Nat.{_<_, _≤_};
 ghost use lib.ListN.{length, getD};
 ghost use Rattle.lists.specs.Lists.{Rises, Splits, Sought};
+
+// `half` where the number is not past `after`, else 0.
+fn step(number: u64, after: u64, half: usize) -> usize
+    ensures most { λ r. ⌜ r ≤ half ⌝ }
+    ensures low { λ r. ⌜ (number ≤ after → r ≡ half) ⌝ }
+    ensures high { λ r. ⌜ (after < number → r ≡ 0) ⌝ }
+{
+    if number <= after {
+        return half;
+    }
+    0
+}
 
 // The place of the first number past `after`, or the length, by halving.
 fn first_after(ids: &[u64], after: u64) -> usize
@@ -9,14 +22,14 @@ fn first_after(ids: &[u64], after: u64) -> usize
     ensures splits { λ r. ⌜ (Rises (now (ids .entry)) → Splits (now (ids .entry)) after r) ⌝ }
 {
     let mut lo = 0;
-    let mut hi = ids.len();
-    while lo < hi {
-        let mid = lo + (hi - lo) / 2;
-        if ids[mid] <= after {
-            lo = mid + 1;
-        } else {
-            hi = mid;
-        }
+    let mut len = ids.len();
+    while len > 1 {
+        let half = len / 2;
+        lo += step(ids[lo + (half - 1)], after, half);
+        len -= half;
+    }
+    if len == 1 {
+        lo += step(ids[lo], after, 1);
     }
     lo
 }
@@ -43,7 +56,7 @@ fn gallop(ids: &[u64], id: u64) -> usize
     0
 }
 
-// The same place, by halving from where the gallop ends: a scan starts after a partner, which is usually a recent event. (The Rust's scans
+// The place that `first_after` gives, by halving from where the gallop ends: a scan starts after a partner, which is usually a recent event. (The Rust's scans
 // halve over the whole list.)
 pub fn first_past(ids: &[u64], after: u64) -> usize
     ensures within { λ r. ⌜ r ≤ length (now (ids .entry)) ⌝ }

@@ -44,7 +44,8 @@ use Rattle.marking.specs.Axes.{Sets}
 use Rattle.marking.specs.Marks.{axisWords, rotationAbout, blockerAt, productAt, products, Puts, Records}
 use Rattle.marking.proofs.RowMarks.{row-sets}
 use Rattle.marking.proofs.AxisMarks.{blocker-recorded, rotation-recorded}
-use Rattle.marking.proofs.StateMarks.{record-more, record-given, record-frame, record-count, good-some}
+use Rattle.model.proofs.Stay.{record-given, record-frame}
+use Rattle.marking.proofs.StateMarks.{record-more, record-count, good-some}
 
 -- a test that was false
 pub off : (b : Bool) → not b ≡ true → b ≡ false

@@ -28,17 +28,6 @@ more (e ∷ es) (suc i) m h = more es i (record1 e m) (le-of-suc-le-suc h)
 pub record-more : (es : List Event) (i : ℕ) (m : State) → i < length es → recordAll (take (i + 1) es) m ≡ record1 (eventAt es i) (recordAll (take i es) m)
 record-more es i m h = ap (λ (k : ℕ). recordAll (take k es) m) (add-one i) ∙ more es i m h
 
--- what a record leaves as it is
-pub record-given : (es : List Event) (m : State) → recordAll es m .given ≡ m .given
-unfolding recordAll record1
-record-given [] m = refl
-record-given (e ∷ es) m = record-given es (record1 e m)
-
-pub record-frame : (es : List Event) (m : State) → recordAll es m .frame ≡ m .frame
-unfolding recordAll record1
-record-frame [] m = refl
-record-frame (e ∷ es) m = record-frame es (record1 e m)
-
 pub record-count : (es : List Event) (m : State) → length (recordAll es m .events) ≡ length (m .events) + length es
 unfolding recordAll record1
 record-count [] m = omega arith

@@ -192,6 +192,7 @@ pub fn marked(
     requires { ⌜ Fit (sizes n l form cap allowance at end) (now s) × (length (now out) ≡ 2 * l + 1) × (qubitNumber n (qubitsOf mark) ≡ 0) ⌝ }
     ensures { λ r. ⌜ Records (eventsOf mark) (now (s .entry)) r (now (s .exit)) ⌝ }
 {
+    // Only here are they one value again: across a call that LLVM leaves standing it would go through memory (docs/DECISIONS.md, "Speed's").
     let z = Sizes {
         n: n,
         l: l,

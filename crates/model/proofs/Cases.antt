@@ -184,8 +184,8 @@ pub record Slips : Type 0 where
       × (map sets (run (alike 3 7 0 scalar) (callCcz 0 1 2 ∷ []) .events)
       ≡ (0 ∷ 1 ∷ []) ∷ (0 ∷ 2 ∷ []) ∷ (0 ∷ 3 ∷ []) ∷ (0 ∷ 4 ∷ []) ∷ (0 ∷ 5 ∷ []) ∷ (0 ∷ 6 ∷ []) ∷ (0 ∷ 7 ∷ []) ∷ [])
   -- openings on two qubits for one event, which need 8 words of labels and 238 of store, and an allowance of at most 2^20; 1, 2, 3 in this order
-  pub openings : (openNumber 2 1 1048576 scalar 8 238 ≡ 0) × (openNumber 2 1 1048576 scalar 8 237 ≡ 3) × (openNumber 2 1 1048576 scalar 7 238 ≡ 3)
-      × (openNumber 2 1 1048577 scalar 8 238 ≡ 1) × (openNumber 0 0 0 scalar 7 0 ≡ 1) × (openNumber 33 0 0 sliced 7 0 ≡ 1) × (openNumber 2 0 0 scalar 7 0 ≡ 2)
+  pub openings : (openNumber 2 1 1048576 scalar 8 237 ≡ 0) × (openNumber 2 1 1048576 scalar 8 236 ≡ 3) × (openNumber 2 1 1048576 scalar 7 237 ≡ 3)
+      × (openNumber 2 1 1048577 scalar 8 237 ≡ 1) × (openNumber 0 0 0 scalar 7 0 ≡ 1) × (openNumber 33 0 0 sliced 7 0 ≡ 1) × (openNumber 2 0 0 scalar 7 0 ≡ 2)
   -- refusals, each first in its order; a refused reset leaves both its places free, and a refused opening the store
   pub refusals : told (alike 2 2 9 scalar)
       (callGate (Cnot 2 2) ∷ callGate (Cnot 1 1) ∷ callTurn kindY 3 9 ∷ callLook kindX 2 ∷ callRecord kindZ 0 5 ∷ callReset 0 ∷ callMeasure 1

@@ -1,10 +1,10 @@
 -- An event, once recorded, keeps its number, axis, tag, sign and label, and a dead one stays dead; every event was recorded by one call; and no
 -- rotation from before a clear can be found. Only an accepted opening ends that. Assumes nothing.
-use Prim.Native.Nat.{ℕ, suc, _+_, _-_, _≤_, _<_}
+use Prim.Native.Nat.{ℕ, _+_, _-_, _≤_, _<_}
 use mathlib.Core.Path.{_≡_, refl, sym, ap, _∙_, subst}
 use mathlib.Core.Logic.{_≢_, _⊎_, inl, inr}
 use mathlib.Core.Bool.{Bool, true, false, cond, true≢false}
-use mathlib.Core.List.{List, [], _∷_, _++_, map, append-nil, append-assoc}
+use mathlib.Core.List.{List, [], _∷_, _++_, append-nil, append-assoc}
 use native.Mathlib.Omega.{arith}
 use native.Mathlib.Decide.{ℕ-discrete, decLt}
 use native.Mathlib.Nat.{not-suc-le-zero}
@@ -40,6 +40,17 @@ all-events : (es : List Event) (s : State) → recordAll es s .events ≡ s .eve
 unfolding recordAll record1
 all-events [] s = sym (append-nil (s .events))
 all-events (e ∷ es) s = all-events es (record1 e s) ∙ append-assoc (s .events) (e ∷ []) es
+
+-- the sizes and the frames stay as they are
+pub record-given : (es : List Event) (s : State) → recordAll es s .given ≡ s .given
+unfolding recordAll record1
+record-given [] s = refl
+record-given (e ∷ es) s = record-given es (record1 e s)
+
+pub record-frame : (es : List Event) (s : State) → recordAll es s .frame ≡ s .frame
+unfolding recordAll record1
+record-frame [] s = refl
+record-frame (e ∷ es) s = record-frame es (record1 e s)
 
 pub accepted-call : (c : Call) (w : ℕ) (s : State) → answerTo c w s ≡ 0 → call c w s ≡ effect c w s
 unfolding call

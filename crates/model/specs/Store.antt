@@ -22,9 +22,9 @@ listCount sliced n = n
 unfoldable pub countRoom : Form → (n : ℕ) → ℕ
 countRoom f n = 2 * listCount f n
 
--- chains of rotations with like labels: two heads and one link for each event
+-- chains of rotations with like labels: a head and a link for each event
 unfoldable pub chainRoom : (E : ℕ) → ℕ
-chainRoom E = 2 * E + E
+chainRoom E = E + E
 
 -- for each event its label (two words), its tag, its sign and whether it is a rotation (one) and its signature (one)
 unfoldable pub eventRoom : (E : ℕ) → ℕ

@@ -9,7 +9,7 @@ use lib.Dec.{eqb}
 use borrow.Author.Tests.{eqb-true}
 use Rattle.model.specs.Pauli.{Pauli, count, times, shift, quarter}
 use Rattle.model.specs.Frame.{Rows, Kind, kindX, kindY, kindZ, kindP, Gate, H, S, Sdg, gateH, gateS, gate, turnZ, turn, axis, paulis, pauliX, pauliZ, fresh}
-use Rattle.model.specs.Events.{Event, Opening, State, record1, recordAll, kill, clear}
+use Rattle.model.specs.Events.{Opening, State, record1, kill, clear}
 use Rattle.model.specs.Calls.{opened, opening, Call, callOpen, callGate, callTurn, callRecord, callMeasure, callReset, callCcx, callCcz, callKill, callRead, callClear, callLook, Lent, answerTo, gateQubits, reframed, effect, call, calls}
 use Rattle.model.proofs.Counts.{count-zero, count-one}
 use Rattle.model.proofs.Products.{Even}
@@ -18,6 +18,7 @@ use Rattle.model.proofs.Labels.{mapRows, map-axis}
 use Rattle.model.specs.Demands.{Small}
 use Rattle.model.proofs.Within.{Within, within-gate, within-axis, within-fresh}
 use Rattle.model.proofs.Good.{Passed, passed, gate-fits, inside-mem}
+use Rattle.model.proofs.Stay.{record-given, record-frame}
 use Rattle.paper.specs.Tableau.{Step, run, undo, inverse}
 use Rattle.paper.specs.Bridge.{toRow, single, circuit, circuits, gates, AllFit, aboutZ, turnGates, heard, applied}
 use Rattle.paper.proofs.Conjugate.{conj, AllApart, conj-reads, conj-even, conj-times, conj-shift, conj-plain}
@@ -113,16 +114,6 @@ still fs s t e f k = record {
   rows = f ∙ k .rows ∙ ap (λ (o : Opening). gates fs (fresh (o .n))) (sym e);
 }
 
-recorded-given : (es : List Event) (s : State) → recordAll es s .given ≡ s .given
-unfolding recordAll record1
-recorded-given [] s = refl
-recorded-given (e ∷ es) s = recorded-given es (record1 e s)
-
-recorded-frame : (es : List Event) (s : State) → recordAll es s .frame ≡ s .frame
-unfolding recordAll record1
-recorded-frame [] s = refl
-recorded-frame (e ∷ es) s = recorded-frame es (record1 e s)
-
 tracks-after : (c : Call) (w : ℕ) (s : State) (fs : List Gate) → answerTo c w s ≡ 0 → Tracks fs s → Tracks (heard c fs) (effect c w s)
 unfolding effect heard answerTo
 tracks-after (callOpen n E A form ws) w s fs h k = record { fits = tt; rows = (unfold opened opening gates in refl) }
@@ -140,9 +131,9 @@ tracks-after (callTurn kind m q) w s fs h k =
     }
 tracks-after (callRecord kind q tag) w s fs h k = still fs s _ (unfold record1 in refl) (unfold record1 in refl) k
 tracks-after (callMeasure q) w s fs h k = still fs s _ (unfold record1 in refl) (unfold record1 in refl) k
-tracks-after (callReset q) w s fs h k = still fs s _ (recorded-given _ s) (recorded-frame _ s) k
-tracks-after (callCcx a b t) w s fs h k = still fs s _ (recorded-given _ s) (recorded-frame _ s) k
-tracks-after (callCcz a b t) w s fs h k = still fs s _ (recorded-given _ s) (recorded-frame _ s) k
+tracks-after (callReset q) w s fs h k = still fs s _ (record-given _ s) (record-frame _ s) k
+tracks-after (callCcx a b t) w s fs h k = still fs s _ (record-given _ s) (record-frame _ s) k
+tracks-after (callCcz a b t) w s fs h k = still fs s _ (record-given _ s) (record-frame _ s) k
 tracks-after (callKill id) w s fs h k = still fs s _ (unfold kill in refl) (unfold kill in refl) k
 tracks-after (callRead id) w s fs h k = k
 tracks-after callClear w s fs h k = still fs s _ (unfold clear in refl) (unfold clear in refl) k

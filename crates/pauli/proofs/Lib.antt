@@ -4,6 +4,8 @@ pub mod Digits
 pub mod Walk
 pub mod PutWord
 pub mod FillLaws
+-- Numbers that are none of those that a match names.
+pub mod Nots
 -- Words as sets, rows as words, signs, signatures, and two rows of one slice.
 pub mod Words
 pub mod Signs

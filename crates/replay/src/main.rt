@@ -171,7 +171,7 @@ fn main() {
     };
     let mut buf = [0u8; 80];
     let mut labels = [0u64; 128];
-    let mut store = [0u64; 4449];
+    let mut store = [0u64; 4401];
     let mut out = [0u8; 65536];
     // A proved loop ends: so many reads are never made.
     let mut turns: u64 = 1099511627776;

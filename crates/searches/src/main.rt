@@ -95,7 +95,7 @@ fn searched(case: u64, h: &mut [u64], form: Form, cap: usize, many: usize, allow
     io::write_all(1, b"\n");
 }
 
-// Kills a rotation of a scalar history of four, and writes the two counts of list 0, whose words are 39 and 40.
+// Kills a rotation of a scalar history of four, and writes the two counts of list 0, whose words are 35 and 36.
 fn killed(h: &mut [u64], kept: u64, id: usize)
     requires { ⌜ Sized scalar 1 4 1 (now h) ⌝ }
     ensures { λ _. ⌜ length (now (h .exit)) ≡ length (now (h .entry)) ⌝ }
@@ -110,16 +110,16 @@ fn killed(h: &mut [u64], kept: u64, id: usize)
             io::write_all(1, b" bad");
         }
     }
-    field(b" length=", h[39]);
-    field(b" dead=", h[40]);
+    field(b" length=", h[35]);
+    field(b" dead=", h[36]);
     io::write_all(1, b"\n");
 }
 
 fn main() {
-    let mut few = [7u64; 423];
+    let mut few = [7u64; 419];
     searched(9, &mut few, Form::Scalar, 4, 1, 1);
     searched(9, &mut few, Form::Scalar, 4, 1, 0);
-    let mut many = [7u64; 648];
+    let mut many = [7u64; 584];
     searched(9, &mut many, Form::Sliced, 64, 1, 1);
     searched(10, &mut many, Form::Sliced, 64, 64, 1000);
     searched(10, &mut many, Form::Sliced, 64, 63, 1000);

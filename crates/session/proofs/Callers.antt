@@ -10,7 +10,7 @@ use Rattle.session.specs.declared.stages.Talk.{Talk}
 use Rattle.session.specs.declared.run.Ran.{Ran}
 use Rattle.session.specs.declared.run.Ran.the-variants as runs
 
-pub start-sized : (t : Talk) (buf ls store : List ℕ) → Begins t → length buf ≡ 80 → length ls ≡ 128 → length store ≡ 4449 → Sized t buf ls store
+pub start-sized : (t : Talk) (buf ls store : List ℕ) → Begins t → length buf ≡ 80 → length ls ≡ 128 → length store ≡ 4401 → Sized t buf ls store
 start-sized t buf ls store b x y z =
     record { line-room = x; label-room = y; store-room = z; held = omega (arith, b .1); within = subst (λ (s : code.Stage). Within s) (sym (b .2)) tt }
 

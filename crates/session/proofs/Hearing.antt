@@ -62,7 +62,7 @@ module _ (st : code.Stage) (n : ℕ) (f : forms.Form) (E A q : ℕ) (u : st ≡ 
   range-full h = range-at st (at.Labels n f E A q) u false (test-no (λ (w : Within (at.Labels n f E A q)). omega (arith, w .1)))
 
 module _ (t : Talk) (input buf ls store out : List ℕ) where
-  pub fits-all : (r : Bool) → length buf ≡ 80 → length ls ≡ 128 → length store ≡ 4449 → length input ≤ length out / 128 → t .held ≤ 80 → t .line ≤ 4611686018427387904
+  pub fits-all : (r : Bool) → length buf ≡ 80 → length ls ≡ 128 → length store ≡ 4401 → length input ≤ length out / 128 → t .held ≤ 80 → t .line ≤ 4611686018427387904
       → Tests r (Within (t .stage)) → Tests r (Fits t input buf ls store out)
   fits-all r a b c d e f h = (
     λ y. record { sized = record { line-room = a; label-room = b; store-room = c; held = e; within = h .0 y }; room = omega arith; lines = f },

@@ -29,7 +29,7 @@ use Rattle.store.specs.declared.answers.Answer.the-variants as answer
 use Rattle.store.specs.declared.answers.Sight.{Sight}
 use Rattle.store.proofs.answers.Answer as answers
 use Rattle.store.proofs.LentLaws.{held-good}
-use Rattle.marking.proofs.StateMarks.{record-given}
+use Rattle.model.proofs.Stay.{record-given}
 use Rattle.partner.specs.Calls.{callIn}
 use Rattle.partner.specs.declared.calls.Call.{Call}
 use Rattle.partner.specs.declared.calls.Call.the-variants as calls

@@ -20,7 +20,7 @@ use Rattle.session.specs.Kinds.{asQubits, asForm, asEvents, asSteps, asL
 -- The words of the program's store: the need of 32 qubits and 48 events in the sliced form (`room-is-need`), enough for every job that it takes
 -- (`room-enough`).
 abbrev pub room : ℕ
-room = 4449
+room = 4401
 
 -- ---- where a job stands
 

@@ -123,7 +123,7 @@ fn fits(t: Talk, input: &[u8], buf: &[u8], labels: &[u64], store: &[u64], out: &
     if labels.len() != 128 {
         return false;
     }
-    if store.len() != 4449 {
+    if store.len() != 4401 {
         return false;
     }
     if input.len() > out.len() / 128 {
@@ -170,7 +170,7 @@ fn play(
     Ran::On(t, at)
 }
 
-// The next bytes of a job. Lent are the line buffer (80 bytes), the labels (128 words), the store (4,449 words) and out (128 bytes for each byte of the
+// The next bytes of a job. Lent are the line buffer (80 bytes), the labels (128 words), the store (4,401 words) and out (128 bytes for each byte of the
 // input); the first three are the job's own until its end. The answers are the first bytes of out.
 pub fn run(
     t: Talk,
@@ -221,7 +221,7 @@ pub fn serve(input: &[u8], out: &mut [u8]) -> Served
     }
     let mut buf = [0u8; 80];
     let mut labels = [0u64; 128];
-    let mut store = [0u64; 4449];
+    let mut store = [0u64; 4401];
     match run(start(), input, &mut buf, &mut labels, &mut store, out) {
         Ran::On(t, n) => {
             let k = last(t, &mut out[n..]);

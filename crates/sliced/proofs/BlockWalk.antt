@@ -5,9 +5,11 @@ use mathlib.Core.Logic.{⊎-elim}
 use mathlib.Core.Bool.{Bool, true, false, cond, _&&_, true≢false}
 use mathlib.Core.List.{List, [], _∷_, map}
 use Prim.Native.Nat.{ℕ, zero, suc, _+_, _-_, _*_, _/_, _%_, _^_, _≤_, _<_, min, zero-le, suc-le-suc}
-use native.Mathlib.Nat.{lt-of-le-of-lt, le-trans, le-of-suc-le-suc, not-suc-le-zero, mul-one, zero-lt-suc, pow-suc}
+use native.Mathlib.Nat.{lt-of-le-of-lt, le-trans, le-of-suc-le-suc, not-suc-le-zero, mul-one, zero-lt-suc, pow-suc, add-mul}
 use native.Mathlib.Omega.{arith}
-use borrow.Author.Tests.{lt-ltb, le-ltb, le-leb, lt-leb, ltb-true, ltb-false}
+use borrow.Author.Tests.{lt-ltb, le-ltb, le-leb, lt-leb, eqb-true, eqb-false}
+use denote.Enum.Declared.{tagOf}
+use types.Run.{OneOf}
 use lib.Arith.{lt-one}
 use lib.Bits.{bitAnd, and-le-l, and-le-r, shifted-half, shifted-even}
 use lib.Count.{ones}
@@ -24,12 +26,13 @@ use Rattle.pauli.proofs.Digits.{three, has-low, has-up, has-ext, has-min, has-n
 use Rattle.lists.specs.declared.budget.Budget.{Budget}
 use Rattle.lists.specs.declared.budget.Spent.the-variants.{Left, Short}
 use Rattle.lists.specs.declared.budget.Scan.{Scan}
-use Rattle.lists.specs.declared.budget.Scan.the-variants.{Clear, Blocked, Out}
+use Rattle.lists.specs.declared.budget.Scan.the-variants.{Clear, Blocked, Out, Bad as bad}
+use Rattle.lists.proofs.budget.Scan.{the-type}
 use Rattle.lists.specs.Lists.{Rises, Splits}
 use Rattle.sliced.specs.Blocks.{Entry, noEntry, entry, entryOf, maskPlace, livePlace, Reps}
 use Rattle.sliced.specs.Gathered.{Has, Marks}
 use Rattle.lists.specs.Scans.{steps, spendOf, scanOf}
-use Rattle.sliced.specs.Steps.{Spread}
+use Rattle.sliced.specs.Steps.{Spread, paid, visited, andThen}
 use Rattle.sliced.proofs.BlockLaws.{block-end}
 use Rattle.sliced.proofs.RebuildLaws.{part-get, part-length, is?}
 
@@ -66,8 +69,8 @@ first-start start = record {
     high : (j i : ℕ) → j ≡ start % 64 + i → j < 64 → has ((2 ^ 64 - 1) * 2 ^ (start % 64)) j ≡ 1
     high j i e l = ap (has ((2 ^ 64 - 1) * 2 ^ (start % 64))) e ∙ has-shl-high (2 ^ 64 - 1) (start % 64) i ∙ has-ones 64 i (omega arith)
 
-pub first-next : (start b : ℕ) → start / 64 ≤ b → FirstIs (2 ^ 64 - 1) start (b + 1)
-first-next start b l = record { set = λ j lj g. has-ones 64 j lj; clear = λ j lj g. absurd (omega arith) }
+pub first-later : (start b : ℕ) → start / 64 < b → FirstIs (2 ^ 64 - 1) start b
+first-later start b l = record { set = λ j lj g. has-ones 64 j lj; clear = λ j lj g. absurd (omega arith) }
 
 -- ---- a word whose digit j is 1 where number j of a list passes a test
 
@@ -207,23 +210,9 @@ module _ (h : List ℕ) (base cap n : ℕ) (es : List Event) (ids : List ℕ) (b
       sym (count-ones live)
       ∙ word-count 64 live (liveAt es) (ofBlock ids b) fits (omega (arith, block-long ids b)) live-bits
 
-  -- the masks of the block, as a part of the slice
-  abbrev masks : List ℕ
-  masks = take (maskPlace base cap n b + 2 * n - maskPlace base cap n b) (drop (maskPlace base cap n b) h)
-
-  module _ (after ax az start word first : ℕ) (room : maskPlace base cap n b + 2 * n ≤ length h) (marks : Marks masks ax az word) (fi : FirstIs first start b)
-      (sp : Splits ids after start) where
-    part-has : (j : ℕ) → j < 64 → Has masks j (entry (map (entryOf es) ids) (b * 64 + j) .x) (entry (map (entryOf es) ids) (b * 64 + j) .z)
-    part-has j lj = record {
-      xs = λ p lp. ap (λ (x : ℕ). has x j) (part-get h (maskPlace base cap n b) (2 * n) (2 * p + 0) (small p lp 0 (omega arith))) ∙ r .xs b p j in-use (tiny p lp) lj;
-      zs = λ p lp. ap (λ (x : ℕ). has x j) (part-get h (maskPlace base cap n b) (2 * n) (2 * p + 1) (small p lp 1 (omega arith))) ∙ r .zs b p j in-use (tiny p lp) lj;
-    }
-      where
-        tiny : (p : ℕ) → p < length masks / 2 → p < n
-        tiny p lp = omega (arith, part-length h (maskPlace base cap n b) (2 * n) room)
-
-        small : (p : ℕ) → p < length masks / 2 → (odd : ℕ) → odd < 2 → 2 * p + odd < 2 * n
-        small p lp odd lo = omega (arith, tiny p lp)
+  module _ (after ax az start word first : ℕ) (marks : Marks h (maskPlace base cap n b) n ax az word) (fi : FirstIs first start b) (sp : Splits ids after start) where
+    block-has : (j : ℕ) → j < 64 → Has h (maskPlace base cap n b) n j (entry (map (entryOf es) ids) (b * 64 + j) .x) (entry (map (entryOf es) ids) (b * 64 + j) .z)
+    block-has j lj = record { xs = λ p lp. r .xs b p j in-use lp lj; zs = λ p lp. r .zs b p j in-use lp lj }
 
     abbrev tested : ℕ
     tested = bitAnd (bitAnd word live) first
@@ -234,7 +223,7 @@ module _ (h : List ℕ) (base cap n : ℕ) (es : List Event) (ids : List ℕ) (b
     word-in : (j : ℕ) → j < 64 → b * 64 + j < length ids → has word j ≡ apart (eventAt es (getD ids (b * 64 + j) 0) .x) (eventAt es (getD ids (b * 64 + j) 0) .z) ax az
     unfolding entryOf
     word-in j lj l =
-        marks j (entry (map (entryOf es) ids) (b * 64 + j) .x) (entry (map (entryOf es) ids) (b * 64 + j) .z) (part-has j lj)
+        marks j (entry (map (entryOf es) ids) (b * 64 + j) .x) (entry (map (entryOf es) ids) (b * 64 + j) .z) (block-has j lj)
         ∙ ap (λ (e : Entry). apart (e .x) (e .z) ax az) (map-entry es ids (b * 64 + j) l)
 
     first-in : (j : ℕ) → j < 64 → b * 64 + j < length ids → has first j ≡ cond (ltb after (getD ids (b * 64 + j) 0)) 1 0
@@ -278,22 +267,49 @@ module _ (h : List ℕ) (base cap n : ℕ) (es : List Event) (ids : List ℕ) (b
 
 -- ---- one piece of work
 
-module _ (w : Work) (ws : List Work) (left : ℕ) where
-  walk-dry : left < w .cost → walk (w ∷ ws) left ≡ dry left
-  unfolding walk
-  walk-dry l = ap (λ (t : Bool). cond t (dry left) (cond (w .stops) (stopped (w .id) (left - w .cost)) (walk ws (left - w .cost)))) (lt-ltb left (w .cost) l)
+-- two answers in a row, where the second and what follows it are known from the steps it is given
+after-both : (r : Scan) (f g v : Budget → Scan) → ((left : Budget) → andThen (f left) g ≡ v left) → andThen (andThen r f) g ≡ andThen r v
+unfolding andThen
+after-both (Clear left) f g v e = e left
+after-both (Blocked left) f g v e = refl
+after-both (Out left) f g v e = refl
+after-both bad f g v e = refl
 
-  walk-stop : w .cost ≤ left → w .stops ≡ true → walk (w ∷ ws) left ≡ stopped (w .id) (left - w .cost)
-  unfolding walk
-  walk-stop l e =
-      ap (λ (t : Bool). cond t (dry left) (cond (w .stops) (stopped (w .id) (left - w .cost)) (walk ws (left - w .cost)))) (le-ltb left (w .cost) l)
-      ∙ ap (λ (t : Bool). cond t (stopped (w .id) (left - w .cost)) (walk ws (left - w .cost))) e
+-- nothing follows
+after-none : (r : Scan) → andThen r (λ left. Clear (steps (left .0))) ≡ r
+unfolding andThen steps
+after-none (Clear left) = refl
+after-none (Blocked left) = refl
+after-none (Out left) = refl
+after-none bad = refl
 
-  walk-on : w .cost ≤ left → w .stops ≡ false → walk (w ∷ ws) left ≡ walk ws (left - w .cost)
-  unfolding walk
-  walk-on l e =
-      ap (λ (t : Bool). cond t (dry left) (cond (w .stops) (stopped (w .id) (left - w .cost)) (walk ws (left - w .cost)))) (le-ltb left (w .cost) l)
-      ∙ ap (λ (t : Bool). cond t (stopped (w .id) (left - w .cost)) (walk ws (left - w .cost))) e
+-- an answer that is not clear is the last
+pub last-one : (r : Scan) (f : Budget → Scan) → OneOf (1 ∷ (2 ∷ (3 ∷ []))) (tagOf the-type r) → andThen r f ≡ r
+unfolding andThen
+last-one (Clear left) f k = absurd (⊎-elim (λ (e : 0 ≡ 1). omega arith) (⊎-elim (λ (e : 0 ≡ 2). omega arith) (λ (e : 0 ≡ 3). omega arith)) k)
+last-one (Blocked left) f k = refl
+last-one (Out left) f k = refl
+last-one bad f k = refl
+
+module _ (w : Work) (ws : List Work) (test : ℕ) (free : test ≡ 0 → w .stops ≡ false) (hit : (test ≡ 0 → ⊥) → w .stops ≡ true) where
+  abbrev on : Budget → Scan
+  on left = scanOf (walk ws (left .0))
+
+  walk-met : (m : ℕ) (none : Bool) → eqb test 0 ≡ none → andThen (cond none (Clear (steps m)) (Blocked (steps m))) on ≡ scanOf (cond (w .stops) (stopped (w .id) m) (walk ws m))
+  unfolding andThen scanOf steps
+  walk-met m true e = ap (λ (x : Bool). scanOf (cond x (stopped (w .id) m) (walk ws m))) (sym (free (eqb-true test 0 e)))
+  walk-met m false e = ap (λ (x : Bool). scanOf (cond x (stopped (w .id) m) (walk ws m))) (sym (hit (eqb-false test 0 e)))
+
+  walk-paid : (left : Budget) (short : Bool)
+      → andThen (paid test left (cond short Short (Left (steps (left .0 - w .cost))))) on ≡ scanOf (cond short (dry (left .0)) (cond (w .stops) (stopped (w .id) (left .0 - w .cost)) (walk ws (left .0 - w .cost))))
+  unfolding paid andThen scanOf steps
+  walk-paid left true = refl
+  walk-paid left false = walk-met (left .0 - w .cost) (eqb test 0) refl
+
+  -- to visit it and go on is to walk on from it
+  walk-block : (left : Budget) → andThen (paid test left (spendOf left (w .cost))) on ≡ scanOf (walk (w ∷ ws) (left .0))
+  unfolding spendOf walk
+  walk-block left = walk-paid left (ltb (left .0) (w .cost))
 
 blocks-more : (k : ℕ) (t : List ℕ) → 0 < length t → blocks (suc k) t ≡ take 64 t ∷ blocks k (drop 64 t)
 unfolding blocks
@@ -304,27 +320,6 @@ blocks-none : (k : ℕ) → blocks k [] ≡ []
 unfolding blocks
 blocks-none zero = refl
 blocks-none (suc k) = refl
-
--- ---- what `spend` answers
-
-spend-short : (b : Budget) (c : ℕ) → spendOf b c ≡ Short → b .0 < c
-unfolding spendOf
-spend-short b c e = ⊎-elim (λ (t : ltb (b .0) c ≡ true). ltb-true (b .0) c t) (λ (f : ltb (b .0) c ≡ false). absurd (no (sym (ap (λ (t : Bool). cond t Short (Left (steps (b .0 - c)))) f) ∙ e))) (is? (ltb (b .0) c))
-  where
-    no : {x : Budget} → Left x ≡ Short → ⊥
-    no e = let z : _≡_ {A = ℕ} 0 1 = cc in omega arith
-
-spend-left : (b r : Budget) (c : ℕ) → spendOf b c ≡ Left r → (c ≤ b .0) × (steps (b .0 - c) ≡ r)
-unfolding spendOf
-spend-left b r c e =
-    ⊎-elim (λ (t : ltb (b .0) c ≡ true). absurd (no (sym (ap (λ (t : Bool). cond t Short (Left (steps (b .0 - c)))) t) ∙ e)))
-    (λ (f : ltb (b .0) c ≡ false). (ltb-false (b .0) c f, same (sym (ap (λ (t : Bool). cond t Short (Left (steps (b .0 - c)))) f) ∙ e))) (is? (ltb (b .0) c))
-  where
-    no : Short ≡ Left r → ⊥
-    no e = let z : _≡_ {A = ℕ} 0 1 = cc in omega arith
-
-    same : {x : Budget} → Left x ≡ Left r → x ≡ r
-    same e = cc
 
 -- ---- where the scan starts
 
@@ -348,12 +343,16 @@ part-is h base cap n len es ids fits long r =
     ∙ r .ids i (omega (arith, part-length h base len fits, length-map ids (entryOf es)))
     ∙ ap (λ (e : Entry). e .id) (map-entry es ids i (omega (arith, part-length h base len fits))))
 
--- ---- the loop: the rest of the walk, from block b with left steps, is the whole of it
+-- ---- the loop: what is answered so far, r, and the walk over the blocks from b on are the whole of it
 
-abbrev pub Remains : List ℕ → (base cap n len after ax az : ℕ) (left₀ : ℕ) (b left : ℕ) → Type 0
-Remains h base cap n len after ax az left₀ b left =
+-- what a scan of these blocks answers
+abbrev scanned : State → (after ax az : ℕ) → List (List ℕ) → Budget → Scan
+scanned s after ax az bs left = scanOf (walk (map (block s after ax az) bs) (left .0))
+
+abbrev pub Remains : List ℕ → (base cap n len after ax az left₀ b : ℕ) → Scan → Type 0
+Remains h base cap n len after ax az left₀ b r =
     (s : State) (q : ℕ) → length (listAt s q) ≡ len → Reps h base cap n (map (entryOf (s .events)) (listAt s q)) → Rises (listAt s q)
-    → (k : ℕ) × (len ≤ b * 64 + k) × (walk (map (block s after ax az) (blocks k (drop (b * 64) (listAt s q)))) left ≡ walk (slicedList s after ax az q) left₀)
+    → (k : ℕ) × (len ≤ b * 64 + k) × (andThen r (scanned s after ax az (blocks k (drop (b * 64) (listAt s q)))) ≡ scanOf (walk (slicedList s after ax az q) left₀))
 
 -- what `first_past` finds is where the numbers of the list split
 abbrev pub Found : List ℕ → (base len after start : ℕ) → Type 0
@@ -364,103 +363,87 @@ abbrev pub Answers : List ℕ → (base cap n len after ax az left₀ : ℕ) →
 Answers h base cap n len after ax az left₀ r =
     (s : State) (q : ℕ) → length (listAt s q) ≡ len → Reps h base cap n (map (entryOf (s .events)) (listAt s q)) → Rises (listAt s q) → r ≡ scanOf (walk (slicedList s after ax az q) left₀)
 
-module _ (h : List ℕ) (base cap n len after ax az start left₀ : ℕ) (fits : base + len ≤ length h) (find : Found h base len after start) where
+module _ (h : List ℕ) (base cap n len after ax az start : ℕ) (budget : Budget) (fits : base + len ≤ length h) (find : Found h base len after start) where
   split-at : (s : State) (q : ℕ) → length (listAt s q) ≡ len → Reps h base cap n (map (entryOf (s .events)) (listAt s q)) → Rises (listAt s q) → Splits (listAt s q) after start
   split-at s q e r rise =
       let same : take (base + len - base) (drop base h) ≡ listAt s q = part-is h base cap n len (s .events) (listAt s q) fits e r in
       subst (λ (t : List ℕ). Splits t after start) same (find (subst (λ (t : List ℕ). Rises t) (sym same) rise))
 
-  pub remains-start : Remains h base cap n len after ax az left₀ (start / 64) left₀
-  unfolding slicedList start
+  pub remains-start : Remains h base cap n len after ax az (budget .0) (start / 64) (Clear budget)
+  unfolding slicedList start andThen
   remains-start s q e r rise = (
     length (listAt s q),
     omega arith,
-    ap (λ (v : ℕ). walk (map (block s after ax az) (blocks (length (listAt s q)) (drop (v / 64 * 64) (listAt s q)))) left₀)
+    ap (λ (v : ℕ). scanOf (walk (map (block s after ax az) (blocks (length (listAt s q)) (drop (v / 64 * 64) (listAt s q)))) (budget .0)))
         (sym (splits-count (listAt s q) after start (split-at s q e r rise))),
   )
 
-  module _ (b : ℕ) (left : Budget) (rest : Remains h base cap n len after ax az left₀ b (left .0)) where
-    pub turn-end : words len ≤ b → Answers h base cap n len after ax az left₀ (Clear left)
-    unfolding words scanOf steps walk
+  module _ (b : ℕ) (a : Scan) (rest : Remains h base cap n len after ax az (budget .0) b a) where
+    -- an answer that is not clear is the scan's, and any answer is once no block is left
+    pub turn-last : OneOf (1 ∷ (2 ∷ (3 ∷ []))) (tagOf the-type a) → Answers h base cap n len after ax az (budget .0) a
+    turn-last k s q e r rise = sym (last-one a _ k) ∙ rest s q e r rise .2
+
+    pub turn-end : words len ≤ b → Answers h base cap n len after ax az (budget .0) a
+    unfolding words scanOf walk
     turn-end l s q e r rise =
         let t = rest s q e r rise in
-        let empty : drop (b * 64) (listAt s q) ≡ [] = drop-of-length-le (listAt s q) {i = b * 64} (omega arith) in
-        ap scanOf (sym (ap (λ (u : List ℕ). walk (map (block s after ax az) (blocks (t .0) u)) (left .0)) empty
-        ∙ ap (λ (u : List (List ℕ)). walk (map (block s after ax az) u) (left .0)) (blocks-none (t .0))) ∙ t .2)
+        let none : blocks (t .0) (drop (b * 64) (listAt s q)) ≡ [] = ap (blocks (t .0)) (drop-of-length-le (listAt s q) {i = b * 64} (omega arith)) ∙ blocks-none (t .0) in
+        sym (after-none a) ∙ ap (λ (u : List (List ℕ)). andThen a (scanned s after ax az u)) (sym none) ∙ t .2
 
-    module _ (lb : b < words len) (word64 : getD h (livePlace base cap n b) 0 < 2 ^ 64) where
-      -- the next block
-      next : (s : State) (q : ℕ) → length (listAt s q) ≡ len → Reps h base cap n (map (entryOf (s .events)) (listAt s q)) → Rises (listAt s q)
-          → (k : ℕ) × (len ≤ (b + 1) * 64 + k)
-          × (walk (block s after ax az (ofBlock (listAt s q) b) ∷ map (block s after ax az) (blocks k (drop ((b + 1) * 64) (listAt s q)))) (left .0) ≡ walk (slicedList s after ax az q) left₀)
-      unfolding words
-      next s q e r rise =
-          let t = rest s q e r rise in
-          let k1 : t .0 ≡ suc (t .0 - 1) = omega (arith, t .1) in
-          let some-left : 0 < length (drop (b * 64) (listAt s q)) = omega (arith, length-drop (b * 64) (listAt s q)) in
-          let on : b * 64 + 64 ≡ (b + 1) * 64 = omega arith in (
-            t .0 - 1,
-            omega (arith, t .1),
-            sym (ap (λ (u : List (List ℕ)). walk (map (block s after ax az) u) (left .0))
-                (ap (λ (v : ℕ). blocks v (drop (b * 64) (listAt s q))) k1 ∙ blocks-more (t .0 - 1) (drop (b * 64) (listAt s q)) some-left
-                ∙ ap (λ (u : List ℕ). ofBlock (listAt s q) b ∷ blocks (t .0 - 1) u) (drop-drop 64 (b * 64) (listAt s q) ∙ ap (λ (v : ℕ). drop v (listAt s q)) on)))
-                ∙ t .2,
-          )
+    module _ (word first : ℕ) (lb : b < words len) (word64 : getD h (livePlace base cap n b) 0 < 2 ^ 64) (marks : Marks h (maskPlace base cap n b) n ax az word) (fi : FirstIs first start b) where
+      abbrev lives : ℕ
+      lives = getD h (livePlace base cap n b) 0
 
       inside : (s : State) (q : ℕ) → length (listAt s q) ≡ len → b * 64 < length (listAt s q)
       unfolding words
       inside s q e = omega arith
 
-      abbrev lives : ℕ
-      lives = getD h (livePlace base cap n b) 0
+      -- the next block
+      next : (s : State) (q : ℕ) → length (listAt s q) ≡ len → (k : ℕ) → len ≤ b * 64 + k → blocks k (drop (b * 64) (listAt s q)) ≡ ofBlock (listAt s q) b ∷ blocks (k - 1) (drop ((b + 1) * 64) (listAt s q))
+      unfolding words
+      next s q e k l =
+          let k1 : k ≡ suc (k - 1) = omega arith in
+          let some-left : 0 < length (drop (b * 64) (listAt s q)) = omega (arith, length-drop (b * 64) (listAt s q)) in
+          let on : b * 64 + 64 ≡ (b + 1) * 64 = omega arith in
+          ap (λ (v : ℕ). blocks v (drop (b * 64) (listAt s q))) k1 ∙ blocks-more (k - 1) (drop (b * 64) (listAt s q)) some-left
+          ∙ ap (λ (u : List ℕ). ofBlock (listAt s q) b ∷ blocks (k - 1) u) (drop-drop 64 (b * 64) (listAt s q) ∙ ap (λ (v : ℕ). drop v (listAt s q)) on)
 
-      costs : (s : State) (q : ℕ) → length (listAt s q) ≡ len → Reps h base cap n (map (entryOf (s .events)) (listAt s q)) → ones lives ≡ block s after ax az (ofBlock (listAt s q) b) .cost
+      -- it is visited as the walk has it
+      visits : (s : State) (q : ℕ) → length (listAt s q) ≡ len → Reps h base cap n (map (entryOf (s .events)) (listAt s q)) → Rises (listAt s q) → (bs : List (List ℕ)) (left : Budget)
+          → andThen (visited lives word first left) (scanned s after ax az bs) ≡ scanned s after ax az (ofBlock (listAt s q) b ∷ bs) left
       unfolding block
-      costs s q e r = block-cost h base cap n (s .events) (listAt s q) b r (inside s q e) word64
+      visits s q e r rise bs left =
+          ap (λ (c : ℕ). andThen (paid (bitAnd (bitAnd word lives) first) left (spendOf left c)) (scanned s after ax az bs)) (block-cost h base cap n (s .events) (listAt s q) b r (inside s q e) word64)
+          ∙ walk-block (block s after ax az (ofBlock (listAt s q) b)) (map (block s after ax az) bs) (bitAnd (bitAnd word lives) first)
+          (block-free h base cap n (s .events) (listAt s q) b r (inside s q e) after ax az start word first marks fi (split-at s q e r rise) word64)
+          (block-hit h base cap n (s .events) (listAt s q) b r (inside s q e) after ax az start word first marks fi (split-at s q e r rise) word64) left
 
-      pub turn-out : spendOf left (ones lives) ≡ Short → Answers h base cap n len after ax az left₀ (Out left)
-      unfolding scanOf steps
-      turn-out z s q e r rise =
-          let t = next s q e r rise in
-          let l : left .0 < ones lives = spend-short left (ones lives) z in
-          ap scanOf (sym (walk-dry (block s after ax az (ofBlock (listAt s q) b)) (map (block s after ax az) (blocks (t .0) (drop ((b + 1) * 64) (listAt s q)))) (left .0) (omega (arith, costs s q e r)))
-          ∙ t .2)
+      pub turn : Remains h base cap n len after ax az (budget .0) (b + 1) (andThen a (visited lives word first))
+      unfolding words
+      turn s q e r rise =
+          let t = rest s q e r rise in
+          let bs : List (List ℕ) = blocks (t .0 - 1) (drop ((b + 1) * 64) (listAt s q)) in (
+            t .0 - 1,
+            omega (arith, t .1),
+            after-both a (visited lives word first) (scanned s after ax az bs) (scanned s after ax az (ofBlock (listAt s q) b ∷ bs)) (visits s q e r rise bs)
+                ∙ ap (λ (u : List (List ℕ)). andThen a (scanned s after ax az u)) (sym (next s q e (t .0) (t .1)))
+                ∙ t .2,
+          )
 
-      module _ (word first : ℕ) (paid : Budget) (room : maskPlace base cap n b + 2 * n ≤ length h) (z : spendOf left (ones lives) ≡ Left paid)
-          (marks : Marks (take (maskPlace base cap n b + 2 * n - maskPlace base cap n b) (drop (maskPlace base cap n b) h)) ax az word) (fi : FirstIs first start b) where
-        enough : ones lives ≤ left .0
-        enough = spend-left left paid (ones lives) z .0
-
-        paid-is : left .0 - ones lives ≡ paid .0
-        unfolding steps
-        paid-is = ap (λ (v : Budget). v .0) (spend-left left paid (ones lives) z .1)
-
-        pub turn-blocked : (bitAnd (bitAnd word lives) first ≡ 0 → ⊥) → Answers h base cap n len after ax az left₀ (Blocked paid)
-        unfolding scanOf steps block
-        turn-blocked d s q e r rise =
-            let t = next s q e r rise in
-            let c : ones lives ≡ block s after ax az (ofBlock (listAt s q) b) .cost = costs s q e r in
-            let pays : paid .0 ≡ left .0 - block s after ax az (ofBlock (listAt s q) b) .cost = sym paid-is ∙ ap (λ (x : ℕ). left .0 - x) c in
-            ap (λ (v : ℕ). scanOf (stopped 0 v)) pays
-            ∙ ap scanOf (sym (walk-stop (block s after ax az (ofBlock (listAt s q) b)) (map (block s after ax az) (blocks (t .0) (drop ((b + 1) * 64) (listAt s q)))) (left .0) (omega (arith, c, enough))
-            (block-hit h base cap n (s .events) (listAt s q) b r (inside s q e) after ax az start word first room marks fi (split-at s q e r rise) word64 d))
-            ∙ t .2)
-
-        pub turn-next : bitAnd (bitAnd word lives) first ≡ 0 → Remains h base cap n len after ax az left₀ (b + 1) (paid .0)
-        unfolding block
-        turn-next d s q e r rise =
-            let t = next s q e r rise in
-            let c : ones lives ≡ block s after ax az (ofBlock (listAt s q) b) .cost = costs s q e r in
-            let pays : paid .0 ≡ left .0 - block s after ax az (ofBlock (listAt s q) b) .cost = sym paid-is ∙ ap (λ (x : ℕ). left .0 - x) c in (
-              t .0,
-              t .1,
-              ap (λ (v : ℕ). walk (map (block s after ax az) (blocks (t .0) (drop ((b + 1) * 64) (listAt s q)))) v) pays
-                  ∙ sym (walk-on (block s after ax az (ofBlock (listAt s q) b)) (map (block s after ax az) (blocks (t .0) (drop ((b + 1) * 64) (listAt s q)))) (left .0) (omega (arith, c, enough))
-                  (block-free h base cap n (s .events) (listAt s q) b r (inside s q e) after ax az start word first room marks fi (split-at s q e r rise) word64 d))
-                  ∙ t .2,
-            )
-
--- the masks and the live word of a block in use stand in the slice
+-- the masks of a block in use stand in the slice, and those of the next one behind them
 pub masks-fit : (h : List ℕ) (base cap n len b : ℕ) → Spread h base cap n → len ≤ cap → b < words len → maskPlace base cap n b + 2 * n ≤ length h
 unfolding words
 masks-fit h base cap n len b room lc lb = omega (arith, room .fits, block-end b ((cap + 63) / 64) (2 * n) (omega arith))
+
+pub next-masks : (base cap n b : ℕ) → maskPlace base cap n (b + 1) ≡ maskPlace base cap n b + 2 * n
+next-masks base cap n b = omega (arith, add-mul b 1 (2 * n))
+
+-- the masks of a block in a lent part of the slice
+pub marks-lent : (h : List ℕ) (from s off m at n ax az word : ℕ) → m ≡ n → off + 2 * n ≤ s → at ≡ from + off → Marks (take (from + s - from) (drop from h)) off m ax az word → Marks h at n ax az word
+marks-lent h from s off m at n ax az word e l q marks i x z en =
+    marks i x z (record { xs = λ p lp. ap (λ (v : ℕ). has v i) (lent (2 * p + 0) (omega arith)) ∙ en .xs p (omega arith); zs = λ p lp. ap (λ (v : ℕ). has v i) (lent (2 * p + 1) (omega arith)) ∙ en .zs p (omega arith) })
+  where
+    lent : (j : ℕ) → j < 2 * n → getD (take (from + s - from) (drop from h)) (off + j) 0 ≡ getD h (at + j) 0
+    lent j lj =
+        let k : from + (off + j) ≡ at + j = omega arith in
+        part-get h from s (off + j) (omega arith) ∙ ap (λ (v : ℕ). getD h v 0) k

@@ -2,14 +2,14 @@
 use mathlib.Core.Path.{_≡_, refl, sym, ap, ap₂, _∙_}
 use mathlib.Core.Logic.{⊎-elim}
 use mathlib.Core.List.{List}
-use Prim.Native.Nat.{ℕ, zero, suc, _+_, _/_, _%_, _^_, _≤_, _<_, min}
+use Prim.Native.Nat.{ℕ, zero, suc, _+_, _*_, _/_, _%_, _^_, _≤_, _<_, min}
 use native.Mathlib.Nat.{mod-lt, zero-lt-suc, not-suc-le-zero, le-refl, mod-eq-of-lt, lt-of-le-of-lt}
 use native.Mathlib.Numerals.{one-add}
 use native.Mathlib.Omega.{arith}
 use lib.Arith.{lt-one}
 use lib.Pow.{pow-pos, mod-pow-add}
 use lib.Bits.{bitAnd, bitXor, xor-comm, xor-zero-r, and-le-l, and-comm}
-use lib.ListN.{length}
+use lib.ListN.{getD}
 use Rattle.model.specs.Pauli.{has, apart, count, countIn}
 use Rattle.model.proofs.Digits.{has-lt, has-xor, has-zero}
 use Rattle.model.proofs.Counts.{xor-assoc, count-cat}
@@ -50,12 +50,15 @@ over-took (suc k) f w p v t o l = ⊎-elim here (below (λ q. over-took k f w p 
         ap₂ (λ (x d : ℕ). bitXor x (pick d (f k))) (ih (omega arith)) (sym (t .other k (λ q. n (sym q))))
         ∙ xor-assoc (f p) (over k f v) (pick (has v k) (f k))
 
--- a turn of a loop that keeps `bitXor acc (over k f w)`
-pub over-turn : (k : ℕ) (f : ℕ → ℕ) (acc w p v : ℕ) → Took w p v → has w p ≡ 1 → p < k → bitXor (bitXor acc (f p)) (over k f v) ≡ bitXor acc (over k f w)
-over-turn k f acc w p v t o l = xor-assoc acc (f p) (over k f v) ∙ ap (bitXor acc) (sym (over-took k f w p v t o l))
+-- a turn of a loop that keeps `bitXor acc (gathered masks at n odd w)`
+pub gather-turn : (masks : List ℕ) (at n odd acc w p v i : ℕ) → i ≡ at + (2 * p + odd) → Took w p v → has w p ≡ 1 → p < n
+    → bitXor (bitXor acc (getD masks i 0)) (gathered masks at n odd v) ≡ bitXor acc (gathered masks at n odd w)
+gather-turn masks at n odd acc w p v i e t o l =
+    xor-assoc acc (getD masks i 0) (gathered masks at n odd v)
+    ∙ ap (bitXor acc) (ap (λ (j : ℕ). bitXor (getD masks j 0) (gathered masks at n odd v)) e ∙ sym (over-took n (mask masks at odd) w p v t o l))
 
-pub over-end : (k : ℕ) (f : ℕ → ℕ) (acc w : ℕ) → w ≡ 0 → bitXor acc (over k f w) ≡ acc
-over-end k f acc w e = ap (λ (x : ℕ). bitXor acc (over k f x)) e ∙ ap (bitXor acc) (over-zero k f) ∙ xor-zero-r acc
+pub gather-end : (masks : List ℕ) (at n odd acc w : ℕ) → w ≡ 0 → bitXor acc (gathered masks at n odd w) ≡ acc
+gather-end masks at n odd acc w e = ap (λ (x : ℕ). bitXor acc (gathered masks at n odd x)) e ∙ ap (bitXor acc) (over-zero n (mask masks at odd)) ∙ xor-zero-r acc
 
 -- ---- digits of such an exclusive or: the parity of the common digits
 
@@ -92,12 +95,12 @@ has-over-all : (k : ℕ) (f : ℕ → ℕ) (w x i : ℕ) → w < 2 ^ k → ((p :
 has-over-all k f w x i h e =
     has-over k f w x i e ∙ ap (λ (n : ℕ). count n % 2) (mod-eq-of-lt (lt-of-le-of-lt (and-le-l w x) h))
 
-pub marks : (masks : List ℕ) (ax az : ℕ) → ax < 2 ^ (length masks / 2) → az < 2 ^ (length masks / 2)
-    → Marks masks ax az (bitXor (gathered masks 1 ax) (gathered masks 0 az))
+pub marks : (masks : List ℕ) (at n ax az gx gz : ℕ) → ax < 2 ^ n → az < 2 ^ n → gx ≡ gathered masks at n 1 ax → gz ≡ gathered masks at n 0 az → Marks masks at n ax az (bitXor gx gz)
 unfolding apart
-marks masks ax az hx hz i x z en =
-    has-xor (over (length masks / 2) (mask masks 1) ax) (over (length masks / 2) (mask masks 0) az) i
-    ∙ ap₂ (λ (a b : ℕ). (a + b) % 2) (has-over-all (length masks / 2) (mask masks 1) ax z i hx (en .zs)) (has-over-all (length masks / 2) (mask masks 0) az x i hz (en .xs))
+marks masks at n ax az gx gz hx hz ex ez i x z en =
+    has-xor gx gz i
+    ∙ ap₂ (λ (a b : ℕ). (has a i + has b i) % 2) ex ez
+    ∙ ap₂ (λ (a b : ℕ). (a + b) % 2) (has-over-all n (mask masks at 1) ax z i hx (en .zs)) (has-over-all n (mask masks at 0) az x i hz (en .xs))
     ∙ ap₂ (λ (a b : ℕ). (count a % 2 + count b % 2) % 2) (and-comm ax z) (and-comm az x)
     ∙ omega arith
 

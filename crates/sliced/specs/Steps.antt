@@ -1,15 +1,23 @@
 -- What the steps of the work on a sliced list do to its words. Assumes nothing.
 use mathlib.Core.Path.{_≡_}
-use mathlib.Core.Bool.{true, false}
+use mathlib.Core.Bool.{true, false, cond}
 use mathlib.Core.List.{List}
 use Prim.Native.Nat.{ℕ, _+_, _*_, _/_, _^_, _≤_, _<_}
-use lib.Bits.{bitOr}
+use lib.Bits.{bitAnd, bitOr}
+use lib.Count.{ones}
+use lib.Dec.{eqb}
 use lib.ListN.{length, getD, set}
 use Rattle.model.specs.Pauli.{has}
 use Rattle.sliced.specs.declared.sliced.Next.{Next}
 use Rattle.sliced.specs.declared.sliced.Next.the-variants.{At, Bad}
+use Rattle.lists.specs.declared.budget.Budget.{Budget}
+use Rattle.lists.specs.declared.budget.Spent.{Spent}
+use Rattle.lists.specs.declared.budget.Spent.the-variants.{Left, Short}
+use Rattle.lists.specs.declared.budget.Scan.{Scan}
+use Rattle.lists.specs.declared.budget.Scan.the-variants.{Clear, Blocked, Out, Bad as bad}
 use Rattle.lists.specs.Lists.{Only, isLive}
 use Rattle.lists.specs.Scalars.{pushed}
+use Rattle.lists.specs.Scans.{spendOf}
 use Rattle.sliced.specs.Blocks.{Entry, entry, fresh, dead, kept, maskPlace, livePlace, slicedRoom, Blocks, Reps, UsedBlocks, Source}
 
 -- the slice has the whole room of a list of at most 32 qubits
@@ -64,3 +72,21 @@ pub record Rebuilt (h : List ℕ) (base cap n len alive axes events : ℕ) (r : 
   pub all : (m : List Entry) → length m ≡ len → ((i : ℕ) → i < len → getD h (base + i) 0 ≡ entry m i .id) → Source h n axes events m
       → (r ≡ At (length (kept (isLive h alive) m))) × Reps g base cap n (kept (isLive h alive) m)
       × Only (UsedBlocks base cap n (length (kept (isLive h alive) m))) h g
+
+-- ---- a scan
+
+-- a block that is paid for stops the scan where a digit of the test is set
+unfoldable pub paid : (test : ℕ) → Budget → Spent → Scan
+paid test left Short = Out left
+paid test left (Left rest) = cond (eqb test 0) (Clear rest) (Blocked rest)
+
+-- one block with these live entries, of which those in word anticommute and those in first are asked for
+abbrev pub visited : (live word first : ℕ) → Budget → Scan
+visited live word first left = paid (bitAnd (bitAnd word live) first) left (spendOf left (ones live))
+
+-- a scan goes on where it is clear so far
+unfoldable pub andThen : Scan → (Budget → Scan) → Scan
+andThen (Clear left) f = f left
+andThen (Blocked left) f = Blocked left
+andThen (Out left) f = Out left
+andThen bad f = bad

@@ -375,12 +375,12 @@ lists-small n cap h k = mul-le-mul h one
 
 -- the words of the history's part as `header::history_room` computes them
 pub room-scalar : (g : forms.Form) (n cap l : ℕ) → g ≡ Scalar
-    → 2 + 7 * cap + cap * (2 * l) + (cap + 63) / 64 + 128 + 64 * cap ≡ historyRoom (formOf g) n cap l
+    → 2 + 6 * cap + cap * (2 * l) + (cap + 63) / 64 + 128 + 64 * cap ≡ historyRoom (formOf g) n cap l
 unfolding historyRoom listSize listCount formOf words
 room-scalar g n cap l e = rw e refl
 
 pub room-sliced : (g : forms.Form) (n cap l : ℕ) → g ≡ Sliced
-    → 2 + 7 * cap + cap * (2 * l) + (cap + 63) / 64 + 2 * n + n * (cap + (cap + 63) / 64 * (2 * n) + (cap + 63) / 64) ≡ historyRoom (formOf g) n cap l
+    → 2 + 6 * cap + cap * (2 * l) + (cap + 63) / 64 + 2 * n + n * (cap + (cap + 63) / 64 * (2 * n) + (cap + 63) / 64) ≡ historyRoom (formOf g) n cap l
 unfolding historyRoom listSize listCount formOf words
 room-sliced g n cap l e = rw e refl
 

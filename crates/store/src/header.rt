@@ -1,5 +1,5 @@
 // The header of a store: word 0 is the length of the slice at its opening, then n, the form (0 scalar, 1 sliced), E and A. A call first asks whether
-// the slice that it is lent is shorter than that (01: answer 3), and whether the sizes are such as an opening accepts: on words that no opening
+// the slice that it is lent is shorter than that (01: answer 3), and whether the sizes are in their ranges and have the words they need: on words that no opening
 // wrote a call must stay inside its slice too (answer 9).
 use history::forms::Form;
 ghost use mathlib.Core.Path.{_≡_};
@@ -66,7 +66,7 @@ pub fn history_room(form: Form, n: usize, l: usize, cap: usize) -> usize
     requires { ⌜ (n ≤ 23168) × (l ≤ 362) × (cap ≤ 2 ^ 24) ⌝ }
     ensures { λ r. ⌜ r ≡ historyRoom (formOf form) n cap l ⌝ }
 {
-    let counts = 2 + 7 * cap + cap * (2 * l) + (cap + 63) / 64;
+    let counts = 2 + 6 * cap + cap * (2 * l) + (cap + 63) / 64;
     match form {
         Form::Scalar => counts + 2 * 64 + 64 * cap,
         Form::Sliced => {
@@ -76,8 +76,8 @@ pub fn history_room(form: Form, n: usize, l: usize, cap: usize) -> usize
     }
 }
 
-// What every other call asks of a store. The sizes are not in the answer: they would go through memory, and each caller uses few of them
-// (docs/SPEED.md).
+// What every other call asks of a store. The sizes are not in the answer: with them it would go through memory (docs/SPEED.md). `sizes_of` reads
+// them again where they are used.
 pub fn check(s: &[u64]) -> Checked
     ensures { λ r. ⌜ TellsAll (now (s .entry)) r ⌝ }
 {

@@ -6,6 +6,7 @@ use native.Mathlib.Omega.{arith}
 use borrow.Author.Tests.{eqb-true, eqb-false}
 use lib.Dec.{eqb}
 use Rattle.model.proofs.Members.{and-both}
+use Rattle.pauli.proofs.Nots.{Nots, least}
 
 -- a test and the equation that it computes to
 pub decided {ℓ} : {P : Type ℓ} (b : Bool) → (b ≡ true → P) → (b ≡ false → P) → P
@@ -37,16 +38,7 @@ checked (suc n) f h k m =
     (λ e. subst (λ (i : ℕ). f i ≡ true) (sym (eqb-true k n e)) (b .1))
     (λ e. let d : k ≡ n → ⊥ = eqb-false k n e in checked n f (b .0) k (omega arith))
 
--- ---- a number from b on that is none of the next n is at least b + n
+-- ---- a number from b on that is none of the next n, and below the one after them, is that one
 
-abbrev pub Nots : (k b n : ℕ) → Type 0
-Nots k b zero = Unit {0}
-Nots k b (suc n) = Nots k b n × (k ≡ b + n → ⊥)
-
-pub least : (k b n : ℕ) → b ≤ k → Nots k b n → b + n ≤ k
-least k b zero h m = omega arith
-least k b (suc n) h m = let i = least k b n h (m .0) in let e = m .1 in omega arith
-
--- so it is the last that there is
 pub last : (k b n : ℕ) → b ≤ k → k < b + suc n → Nots k b n → k ≡ b + n
 last k b n h m r = let i = least k b n h r in omega arith

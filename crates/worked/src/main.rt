@@ -244,11 +244,11 @@ fn dropped(s: &mut [u64]) {
 }
 
 fn main() {
-    let mut s = [7u64; 4827];
+    let mut s = [7u64; 4763];
     worked(&mut s);
     carried(&mut s);
     blocked(&mut s);
-    let mut least = [7u64; 2522];
+    let mut least = [7u64; 2521];
     qubits(&mut least);
     events(&mut least);
     fresh_y(&mut s, 5);

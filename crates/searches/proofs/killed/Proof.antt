@@ -1,4 +1,4 @@
--- `searches::killed` meets its contract: the words 39 and 40 are within the 423. Assumes nothing.
+-- `searches::killed` meets its contract: the words 35 and 36 are within the 419. Assumes nothing.
 use Rattle.history.specs.Sizes.{formOf}
 use Rattle.searches.proofs.SizeLaws.{scalar-long}
 use native.Mathlib.Omega.{arith}

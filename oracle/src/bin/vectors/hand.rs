@@ -113,8 +113,8 @@ fn case_11_refused(form: &str) -> Hand {
     )
 }
 
-/// Case 11, with seven places left and one to spare. List 2 is X2, then X2, Z0X2, Z1X2, Z0Z1X2; list 0 is Z0, then Z0, Z0Z1, Z0X2,
-/// Z0Z1X2; all commute with X2 and with Z0. Then Z2 stands in the way of X2.
+/// Case 11, with seven places left and one to spare. List 2 is X2, then X2, Z0X2, Z1X2, Z0Z1X2; list 0 is Z0, then Z0, Z0Z1,
+/// Z0X2, Z0Z1X2; all commute with X2 and with Z0. Then Z2 stands in the way of X2.
 fn case_11(form: &str, found: u32, blocked: u32) -> Hand {
     hand(
         header(3, form, 10, 100),

@@ -1,7 +1,8 @@
-//! The original for ../../../../bench: its own items driven in loops of this crate, as the original's own loop does, with none of `Judge`'s checks.
+//! The original for ../../../../bench: its own items driven in loops of this crate, as the original's own loop does, with none of
+//! `Judge`'s checks.
 //!
-//! A grandchild of phase_fold_pauli.rs, so it sees that file's private items; numbers in comments are its lines. What a rotation does to the
-//! circuit that comes out (angles, `deleted`, `replacements`) is left out here and on our side.
+//! A grandchild of phase_fold_pauli.rs, so it sees that file's private items; numbers in comments are its lines. What a rotation
+//! does to the circuit that comes out (angles, `deleted`, `replacements`) is left out here and on our side.
 
 use super::super::*;
 use super::Kind;
@@ -46,7 +47,8 @@ impl Speed {
         }
     }
 
-    /// 340, 341 and 344: `times` looks, each about the next of the axes asked for. The sum is over the partners' numbers and relative signs.
+    /// 340, 341 and 344: `times` looks, each about the next of the axes asked for. The sum is over the partners' numbers and
+    /// relative signs.
     pub fn looks(&mut self, asked: &[(Kind, u32)], times: usize) -> u64 {
         let f = &mut self.folder;
         let mut sum = 0;
@@ -142,7 +144,8 @@ impl Speed {
         self.folder.history.events.len()
     }
 
-    /// Both frames as our store has them: for each qubit phase and words of x[q] and of z[q], then for each qubit both labels, high word first.
+    /// Both frames as our store has them: for each qubit phase and words of x[q] and of z[q], then for each qubit both labels,
+    /// high word first.
     pub fn frames(&self) -> Vec<u64> {
         let f = &self.folder;
         let mut words = Vec::new();

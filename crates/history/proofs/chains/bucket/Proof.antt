@@ -3,19 +3,15 @@ use mathlib.Core.Path.{refl}
 use Rattle.history.specs.Newest.{bucketOf}
 use Rattle.history.proofs.ChainLaws.{half-times}
 use native.Mathlib.Omega.{arith}
-use borrow.Author.Needs.{needs}
 use Rattle.history.proofs.chains.bucket.Statement.{statement}
 use Rattle.history.proofs.chains.bucket.Tie as tie
 
 mul-result : tie.Need-mul-result
-mul-result c = search needs
-
-mul-result-2 : tie.Need-mul-result-2
-mul-result-2 c = record { fits = omega (arith, half-times (c .args .low) (c .args .cap) (omega arith)) }
+mul-result c = record { fits = omega (arith, half-times (c .args .low) (c .args .cap) (omega arith)) }
 
 returns : tie.Need-returns
 unfolding bucketOf
 returns c = (refl, omega (arith, half-times (c .args .low) (c .args .cap) (omega arith)))
 
 pub bucket-spec : {M : Type 1} → statement M
-bucket-spec = tie.close (tie.spec mul-result mul-result-2 returns)
+bucket-spec = tie.close (tie.spec mul-result returns)

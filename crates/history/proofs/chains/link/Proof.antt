@@ -15,17 +15,14 @@ mul-head c = search needs
 slice-read-head : tie.Need-slice-read-head
 slice-read-head c = search needs
 
-mul-h : tie.Need-mul-h
-mul-h c = search needs
-
 add-h : tie.Need-add-h
 add-h c = search needs
 
 add-h-2 : tie.Need-add-h-2
 add-h-2 c = search needs
 
-mul-h-2 : tie.Need-mul-h-2
-mul-h-2 c = search needs
+mul-h : tie.Need-mul-h
+mul-h c = search needs
 
 slice-write-h : tie.Need-slice-write-h
 slice-write-h c = search needs
@@ -36,8 +33,8 @@ add-h-3 c = search needs
 add-h-4 : tie.Need-add-h-4
 add-h-4 c = search needs
 
-mul-h-3 : tie.Need-mul-h-3
-mul-h-3 c = search needs
+mul-h-2 : tie.Need-mul-h-2
+mul-h-2 c = search needs
 
 slice-write-h-2 : tie.Need-slice-write-h-2
 slice-write-h-2 c = simp length-set (omega arith)
@@ -55,14 +52,13 @@ link-spec =
     add-head
     mul-head
     slice-read-head
-    mul-h
     add-h
     add-h-2
-    mul-h-2
+    mul-h
     slice-write-h
     add-h-3
     add-h-4
-    mul-h-3
+    mul-h-2
     slice-write-h-2
     same-length
     returns)

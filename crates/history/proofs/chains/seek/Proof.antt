@@ -12,7 +12,7 @@ use Rattle.history.proofs.chains.seek.Tie as tie
 
 abbrev Inv-loop : tie.InvT-loop
 Inv-loop h cap k id c₀ v₀ last₀ c v last =
-    (c < 2 + 3 * cap) × (last ≤ cap + 1) × (v ≡ getD h c 0)
+    (c < 2 + 2 * cap) × (last ≤ cap + 1) × (v ≡ getD h c 0)
     × ((p : ℕ → Bool) (n : ℕ) → n ≤ cap → Chained p n cap k h → id < n → p id ≡ true → Walking p n cap k id c v last)
 
 abbrev μ-loop : tie.MeasureT-loop
@@ -40,9 +40,6 @@ returns : tie.Need-returns Inv-loop μ-loop
 returns c =
     let at = c .before .before in
     (tt, λ p n f ch i e. let b = walk-falls p n _ _ _ _ f ch i e _ _ _ (at .loop .inv .3 p n f ch i e) in omega arith)
-
-mul-c : tie.Need-mul-c Inv-loop μ-loop
-mul-c c = search needs
 
 add-c-2 : tie.Need-add-c-2 Inv-loop μ-loop
 add-c-2 c = search needs
@@ -93,7 +90,6 @@ seek-spec =
     loop-holds
     add-loop
     returns
-    mul-c
     add-c-2
     sub-c
     add-c-3

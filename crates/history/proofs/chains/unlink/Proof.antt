@@ -19,23 +19,20 @@ seek-requires c κs = search needs
 enum-known-c : tie.Need-enum-known-c
 enum-known-c c = search needs
 
-mul-older : tie.Need-mul-older
-mul-older c = search needs
-
 add-older : tie.Need-add-older
 add-older c = search needs
 
 add-older-2 : tie.Need-add-older-2
 add-older-2 c = search needs
 
-mul-older-2 : tie.Need-mul-older-2
-mul-older-2 c = search needs
+mul-older : tie.Need-mul-older
+mul-older c = search needs
 
 slice-read-older : tie.Need-slice-read-older
 slice-read-older c = search needs
 
 -- the cell that was found is one of the chains' cells
-cell-inside : (c : lts.After-slice-known2 (seek-reads.Asked, seek-reads.Learnt) reads.Pre reads.Post) → c .before .before .c .given .0 .0 < 2 + 3 * c .before .before .before .before .before .before .before .args .cap
+cell-inside : (c : lts.After-slice-known2 (seek-reads.Asked, seek-reads.Learnt) reads.Pre reads.Post) → c .before .before .c .given .0 .0 < 2 + 2 * c .before .before .before .before .before .before .before .args .cap
 cell-inside c = subst (λ (r : Cell). Inside (c .before .before .before .before .before .before .before .args .cap) r) (c .before .before .c .given .1) (c .before .before .before .before .seek .ensures .0)
 
 mul-h : tie.Need-mul-h
@@ -79,10 +76,9 @@ unlink-spec =
     (tie.spec
     seek-requires
     enum-known-c
-    mul-older
     add-older
     add-older-2
-    mul-older-2
+    mul-older
     slice-read-older
     mul-h
     slice-write-h

@@ -12,7 +12,7 @@ use borrow.Author.Needs.{needs}
 use Rattle.history.proofs.forms.kill_lists.Statement.{statement}
 use Rattle.history.proofs.forms.kill_lists.Tie as tie
 
-counted : (c : tie.After-slice-known) → let a = c .before .args in 2 + 7 * a .cap + a .cap * (2 * a .l) + (a .cap + 63) / 64 ≤ length (a .h .now)
+counted : (c : tie.After-slice-known) → let a = c .before .args in 2 + 6 * a .cap + a .cap * (2 * a .l) + (a .cap + 63) / 64 ≤ length (a .h .now)
 counted c = let s = c .before in counts-fit (s .args .form) (s .args .n) (s .args .cap) (s .args .l) (s .args .h .now) (s .pre .0)
 
 scalar : (c : tie.After-enum-told) → let a = c .before .before .before .args in Sized model.scalar (a .n) (a .cap) (a .l) (a .h .now)
@@ -21,7 +21,7 @@ scalar c = let s = c .before .before .before in as-scalar (s .args .form) (s .ar
 sliced : (c : tie.After-enum-told2) → let a = c .before .before .before .args in Sized model.sliced (a .n) (a .cap) (a .l) (a .h .now)
 sliced c = let s = c .before .before .before in as-sliced (s .args .form) (s .args .n) (s .args .cap) (s .args .l) (s .args .h .now) (c .enum-told2 .given .1) (s .pre .0)
 
-sliced-fits : (c : tie.After-enum-told2) → let a = c .before .before .before .args in 2 + 7 * a .cap + a .cap * (2 * a .l) + (a .cap + 63) / 64 + 2 * a .n ≤ length (a .h .now)
+sliced-fits : (c : tie.After-enum-told2) → let a = c .before .before .before .args in 2 + 6 * a .cap + a .cap * (2 * a .l) + (a .cap + 63) / 64 + 2 * a .n ≤ length (a .h .now)
 sliced-fits c = let a = c .before .before .before .args in omega (arith, sliced-long (a .n) (a .cap) (a .l) (a .h .now) (sliced c))
 
 mul-alive : tie.Need-mul-alive

@@ -87,8 +87,8 @@ unlink-requires c κs =
     let s = c .before .before .before .before .before in
     let a = s .args in
     let w = dropped (now (a .h)) (a .l) (a .cap) (a .id) ((1 * 2 ^ (a .id % 64)) % 2 ^ 64) (s .pre .0) (s .pre .3) (bit-is 64 (a .id % 64) (omega arith)) in
-    let room : 2 + 3 * a .cap ≤ length (now (a .h)) = omega (arith, s .pre .0) in
-    (subst (λ (x : ℕ). 2 + 3 * a .cap ≤ x) (sym (w .long)) room, c .bucket .ensures .1, s .pre .3)
+    let room : 2 + 2 * a .cap ≤ length (now (a .h)) = omega (arith, s .pre .0) in
+    (subst (λ (x : ℕ). 2 + 2 * a .cap ≤ x) (sym (w .long)) room, c .bucket .ensures .1, s .pre .3)
 
 same-length : tie.Need-same-length
 same-length c =

@@ -9,7 +9,7 @@ use borrow.Author.Needs.{needs}
 use Rattle.history.proofs.opening.fresh.Statement.{statement}
 use Rattle.history.proofs.opening.fresh.Tie as tie
 
-counted : (c : tie.After-slice-known) → let a = c .before .args in 2 + 7 * a .cap + a .cap * (2 * a .l) + (a .cap + 63) / 64 ≤ length (a .h .now)
+counted : (c : tie.After-slice-known) → let a = c .before .args in 2 + 6 * a .cap + a .cap * (2 * a .l) + (a .cap + 63) / 64 ≤ length (a .h .now)
 counted c = let s = c .before in counts-fit (s .args .form) (s .args .n) (s .args .cap) (s .args .l) (s .args .h .now) (s .pre)
 
 mul-counts : tie.Need-mul-counts
@@ -36,17 +36,14 @@ add-counts-4 c = omega (arith, counted c)
 list-count-requires : tie.Need-list-count-requires
 list-count-requires c κs = search needs
 
-mul-clear : tie.Need-mul-clear
-mul-clear c = search needs
-
 add-clear : tie.Need-add-clear
 add-clear c = search needs
 
 clear-requires : tie.Need-clear-requires
 clear-requires c κs = let s = c .before .before .before in omega (arith, heads-fit (formOf (s .args .form)) (s .args .n) (s .args .cap) (s .args .l) (s .args .h .now) (s .pre))
 
-mul-clear-2 : tie.Need-mul-clear-2
-mul-clear-2 c =
+mul-clear : tie.Need-mul-clear
+mul-clear c =
     let s = c .before .before .before .before .before .before .before in
     omega (arith, lists-fit (formOf (s .args .form)) (s .args .n) (s .args .cap) (s .args .l) (s .args .h .now) (s .pre), c .before .before .before .before .before .list-count .ensures)
 
@@ -79,10 +76,9 @@ fresh-spec =
     add-counts-3
     add-counts-4
     list-count-requires
-    mul-clear
     add-clear
     clear-requires
-    mul-clear-2
+    mul-clear
     clear-requires-2
     same-length
     returns)

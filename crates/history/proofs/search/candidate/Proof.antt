@@ -1,7 +1,7 @@
 -- `history::search::candidate` meets its contract: what is left of the phase at cur is what is left of the whole. Assumes nothing.
 use mathlib.Core.Path.{_≡_, refl, sym, subst}
 use mathlib.Core.List.{List}
-use Prim.Native.Nat.{ℕ, _+_, _-_, _*_, _<_}
+use Prim.Native.Nat.{ℕ, _+_, _-_, _<_}
 use lib.ListN.{getD}
 use Rattle.model.specs.Events.{Form, State}
 use Rattle.model.specs.Search.{walk, phase1}
@@ -57,7 +57,7 @@ loop-holds c =
     let a = c .before .before .before .before .before .before .before .args in
     let k = c .before .bucket .ensures in
     λ f n m holds. subst (λ (j : ℕ). Cursor m (a .cap) (a .high) (a .low) (ofRow 0 (a .axis .now) .x) (ofRow 0 (a .axis .now) .z) (walk (phase1 m (labelOf (a .high) (a .low)) (ofRow 0 (a .axis .now) .x) (ofRow 0 (a .axis .now) .z)) (a .budget .0)) (getD (a .h .now) (2 + j) 0) (a .budget)) (sym (k .0))
-    (cursor-begins m (a .cap) (a .high) (a .low) _ _ _ f n (a .l) (a .h .now) (a .budget) holds (subst (λ (j : ℕ). j < 2 * a .cap) (k .0) (k .1)) refl)
+    (cursor-begins m (a .cap) (a .high) (a .low) _ _ _ f n (a .l) (a .h .now) (a .budget) holds (subst (λ (j : ℕ). j < a .cap) (k .0) (k .1)) refl)
 
 turn-requires : tie.Need-turn-requires Inv-loop μ-loop
 turn-requires c κs = search needs
@@ -79,7 +79,7 @@ turned c f n m holds r q =
       count = sym (holds .count);
       past = sym (holds .cleared);
       picked = c .before .before .loop .inv f n m holds .picked (omega arith);
-      bucket = subst (λ (j : ℕ). j < 2 * a .cap) (k .0) (k .1);
+      bucket = subst (λ (j : ℕ). j < a .cap) (k .0) (k .1);
     }))
 
 loop-less : tie.Need-loop-less Inv-loop μ-loop

@@ -5,9 +5,6 @@ use borrow.Author.Needs.{needs}
 use Rattle.history.proofs.search.onward.Statement.{statement}
 use Rattle.history.proofs.search.onward.Tie as tie
 
-mul-next : tie.Need-mul-next
-mul-next c = search needs
-
 add-next : tie.Need-add-next
 add-next c = search needs
 
@@ -17,8 +14,8 @@ sub-next c = search needs
 add-next-2 : tie.Need-add-next-2
 add-next-2 c = search needs
 
-mul-next-2 : tie.Need-mul-next-2
-mul-next-2 c = search needs
+mul-next : tie.Need-mul-next
+mul-next c = search needs
 
 shared-slice-read-next : tie.Need-shared-slice-read-next
 shared-slice-read-next c = search needs
@@ -33,11 +30,10 @@ pub onward-spec : {M : Type 1} → statement M
 onward-spec =
     tie.close
     (tie.spec
-    mul-next
     add-next
     sub-next
     add-next-2
-    mul-next-2
+    mul-next
     shared-slice-read-next
     returns
     returns-2)

@@ -1,10 +1,8 @@
 -- `sliced::masks::anticommuting` meets its contract: its two halves are gathered, and `marks` says what their digits are. Assumes nothing.
-use mathlib.Core.Path.{_≡_, sym, ap₂, subst}
-use Prim.Native.Nat.{ℕ}
+use Prim.Native.Nat.{_/_}
 use borrow.Author.Needs.{needs}
-use lib.Bits.{bitXor}
+use lib.ListN.{length}
 use denote.Ref.{now}
-use Rattle.sliced.specs.Gathered.{gathered, Marks}
 use Rattle.sliced.proofs.MaskLaws.{marks}
 use Rattle.sliced.proofs.masks.anticommuting.Statement.{statement}
 use Rattle.sliced.proofs.masks.anticommuting.Tie as tie
@@ -17,9 +15,9 @@ gather-requires-2 c κs = search needs
 
 returns : tie.Need-returns
 returns c =
-    let a = c .before .before .before .args in
-    let e : bitXor (c .before .gather .result) (c .gather2 .result) ≡ bitXor (gathered (now (a .masks)) 1 (a .ax)) (gathered (now (a .masks)) 0 (a .az)) = ap₂ bitXor (c .before .gather .ensures) (c .gather2 .ensures) in
-    subst (λ (r : ℕ). Marks (now (a .masks)) (a .ax) (a .az) r) (sym e) (marks (now (a .masks)) (a .ax) (a .az) (c .before .before .before .pre .0) (c .before .before .before .pre .1))
+    let s = c .before .before .before in
+    let a = s .args in
+    marks (now (a .masks)) 0 (length (now (a .masks)) / 2) (a .ax) (a .az) (c .before .gather .result) (c .gather2 .result) (s .pre .0) (s .pre .1) (c .before .gather .ensures) (c .gather2 .ensures)
 
 pub anticommuting-spec : {M : Type 1} → statement M
 anticommuting-spec = tie.close (tie.spec gather-requires gather-requires-2 returns)

@@ -1,20 +1,20 @@
 -- `sliced::masks::gather` meets its contract: acc xor what is gathered over the digits w left to do is the whole. Assumes nothing.
 use mathlib.Core.Path.{_≡_, refl, sym, _∙_}
 use mathlib.Core.List.{List}
-use Prim.Native.Nat.{ℕ, _/_, _≤_, _<_}
+use Prim.Native.Nat.{ℕ, _+_, _*_, _/_, _≤_, _<_}
 use native.Mathlib.Omega.{arith}
 use lib.Bits.{bitXor}
 use lib.ListN.{length}
 use denote.Ref.{now}
 use Rattle.pauli.specs.Digits.{Took}
-use Rattle.sliced.specs.Gathered.{mask, gathered}
+use Rattle.sliced.specs.Gathered.{gathered}
 use Rattle.pauli.proofs.Walk.{took-less}
-use Rattle.sliced.proofs.MaskLaws.{over-turn, over-end, place-lt}
+use Rattle.sliced.proofs.MaskLaws.{gather-turn, gather-end, place-lt}
 use Rattle.sliced.proofs.masks.gather.Statement.{statement}
 use Rattle.sliced.proofs.masks.gather.Tie as tie
 
 abbrev Inv-loop : tie.InvT-loop
-Inv-loop masks set odd acc₀ w₀ acc w = (bitXor acc (gathered masks odd w) ≡ gathered masks odd set) × (w ≤ set)
+Inv-loop masks set odd acc₀ w₀ acc w = (bitXor acc (gathered masks 0 (length masks / 2) odd w) ≡ gathered masks 0 (length masks / 2) odd set) × (w ≤ set)
 
 abbrev μ-loop : tie.MeasureT-loop
 μ-loop masks set odd acc₀ w₀ acc w = w
@@ -71,14 +71,14 @@ loop-less c = took-less (w-of (c .before .before)) (p-of (c .before .before)) (c
 loop-again : tie.Need-loop-again Inv-loop μ-loop
 loop-again c =
     let a = c .before .before in (
-      over-turn (length (ms a) / 2) (mask (ms a) (odd-of a)) (acc-of a) (w-of a) (p-of a) (c .rest .result) (took c) (a .lowest .ensures .one) (in-block a) ∙ a .before .before .loop .inv .0,
+      gather-turn (ms a) 0 (length (ms a) / 2) (odd-of a) (acc-of a) (w-of a) (p-of a) (c .rest .result) (2 * p-of a + odd-of a) (omega arith) (took c) (a .lowest .ensures .one) (in-block a) ∙ a .before .before .loop .inv .0,
       omega (arith, took-less (w-of a) (p-of a) (c .rest .result) (took c)),
     )
 
 returns : tie.Need-returns Inv-loop μ-loop
 returns c =
     let a = c .before .before .before .args in
-    sym (over-end (length (now (a .masks)) / 2) (mask (now (a .masks)) (a .odd)) (c .before .loop .acc) (c .before .loop .w) (omega arith)) ∙ c .before .loop .inv .0
+    sym (gather-end (now (a .masks)) 0 (length (now (a .masks)) / 2) (a .odd) (c .before .loop .acc) (c .before .loop .w) (omega arith)) ∙ c .before .loop .inv .0
 
 pub gather-spec : {M : Type 1} → statement M
 gather-spec =
