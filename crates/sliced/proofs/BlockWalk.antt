@@ -22,7 +22,7 @@ use Rattle.model.specs.Events.{Event, State, words, keep, some, eventAt, liveAt
 use Rattle.model.specs.Search.{Work, stopped, dry, walk, against, listAt, blocks, start, block, slicedList}
 use Rattle.model.proofs.Digits.{has-lt, has-zero}
 use Rattle.model.proofs.Counts.{count-ones, count-step, count-zero}
-use Rattle.pauli.proofs.Digits.{three, has-low, has-up, has-ext, has-min, has-not, has-mod}
+use Rattle.pauli.proofs.Digits.{three, has-low, has-up, has-ext, has-min, has-mod}
 use Rattle.lists.specs.declared.budget.Budget.{Budget}
 use Rattle.lists.specs.declared.budget.Spent.the-variants.{Left, Short}
 use Rattle.lists.specs.declared.budget.Scan.{Scan}
@@ -34,7 +34,7 @@ use Rattle.sliced.specs.Gathered.{Has, Marks}
 use Rattle.lists.specs.Scans.{steps, spendOf, scanOf}
 use Rattle.sliced.specs.Steps.{Spread, paid, visited, andThen}
 use Rattle.sliced.proofs.BlockLaws.{block-end}
-use Rattle.sliced.proofs.RebuildLaws.{part-get, part-length, is?}
+use Rattle.sliced.proofs.RebuildLaws.{has-ones, part-get, part-length, is?}
 
 -- ---- digits of a remainder, of a shifted word and of a word of ones
 
@@ -47,11 +47,6 @@ has-shl-high : (n s j : ℕ) → has (n * 2 ^ s) (s + j) ≡ has n j
 has-shl-high n zero j = ap₂ has (mul-one n) (omega arith)
 has-shl-high n (suc s) j =
     ap (has (n * 2 ^ suc s)) (omega arith) ∙ has-up (n * 2 ^ suc s) (s + j) ∙ ap (λ (x : ℕ). has x (s + j)) (shifted-half n s) ∙ has-shl-high n s j
-
-has-ones : (k j : ℕ) → j < k → has (2 ^ k - 1) j ≡ 1
-has-ones k j l =
-    let e : 2 ^ k - 1 ≡ (2 ^ k - 1) - 0 = omega arith in
-    ap (λ (x : ℕ). has x j) e ∙ omega (arith, has-not k 0 j (pow-pos k) l, has-zero j)
 
 -- ---- the mask of the entries from start on
 

@@ -3,10 +3,11 @@ use mathlib.Core.Path.{_≡_, refl, sym, ap, _∙_, subst}
 use mathlib.Core.Logic.{_⊎_, inl, inr, ⊎-elim}
 use mathlib.Core.Bool.{Bool, true, false, cond, true≢false}
 use mathlib.Core.List.{List, [], _∷_, _++_}
-use Prim.Native.Nat.{ℕ, _+_, _-_, _*_, _/_, _%_, _^_, _≤_, _<_}
-use native.Mathlib.Nat.{div-eq-of-lt, div-lt-iff-lt-mul, one-mul, mul-le-mul-right}
+use Prim.Native.Nat.{ℕ, suc, _+_, _-_, _*_, _/_, _%_, _^_, _≤_, _<_, suc-le-suc}
+use native.Mathlib.Nat.{zero-lt-suc, div-eq-of-lt, div-lt-iff-lt-mul, one-mul, mul-le-mul-right}
 use native.Mathlib.Numerals.{add-one}
 use native.Mathlib.Omega.{arith}
+use native.Mathlib.Decide.{decLt}
 use lib.Pow.{pow-pos}
 use lib.Bits.{bitOr, or-lt, or-add-and, and-le-l, and-le-r}
 use lib.Dec.{eqb}
@@ -14,13 +15,16 @@ use lib.ListN.{length, getD, take, drop, length-append, length-drop}
 use lib.Seq.{take-suc, take-all, getD-take, getD-drop, length-take-le}
 use Rattle.model.specs.Pauli.{has}
 use Rattle.model.specs.Events.{words}
+use Rattle.model.proofs.Digits.{has-zero}
 use Rattle.pauli.specs.Sets.{member}
+use Rattle.pauli.proofs.Walk.{same?}
+use Rattle.pauli.proofs.Digits.{has-not}
 use Rattle.sliced.specs.declared.sliced.Next.{Next}
 use Rattle.sliced.specs.declared.sliced.Next.the-variants.{At, Bad}
 use Rattle.lists.specs.Lists.{Only, isLive}
 use Rattle.lists.specs.Scalars.{pushed}
-use Rattle.sliced.specs.Blocks.{Entry, noEntry, fresh, entry, Reps, UsedBlocks, Source, kept}
-use Rattle.sliced.specs.Steps.{Appended, Stepped, Rebuilt}
+use Rattle.sliced.specs.Blocks.{Entry, noEntry, fresh, entry, livePlace, Reps, UsedBlocks, Source, kept}
+use Rattle.sliced.specs.Steps.{Appended, Stepped, Settled, Rebuilt}
 use Rattle.sliced.proofs.BlockLaws.{block-end}
 
 -- ---- a part of the slice
@@ -164,32 +168,97 @@ pub record Building (h₀ : List ℕ) (base cap n alive : ℕ) (m : List Entry) 
   pub reps : Reps h base cap n (kept (isLive h₀ alive) (take i m))
   pub only : Only (UsedBlocks base cap n k) h₀ h
 
-pub building-none : (h : List ℕ) (base cap n alive : ℕ) (m : List Entry) → Building h base cap n alive m 0 0 h
-unfolding kept words
-building-none h base cap n alive m = record {
-  count = refl;
-  reps = record {
-    within = omega arith;
-    ids = λ i l. absurd (omega arith);
-    xs = λ b p j l lp lj. absurd (omega arith);
-    zs = λ b p j l lp lj. absurd (omega arith);
-    lives = λ b j l lj. absurd (omega arith);
-  };
-  only = record { same-length = refl; kept = λ j w. refl };
+-- the digits of 2 ^ k - 1
+pub has-ones : (k j : ℕ) → j < k → has (2 ^ k - 1) j ≡ 1
+has-ones k j l =
+    let e : 2 ^ k - 1 ≡ (2 ^ k - 1) - 0 = omega arith in
+    ap (λ (x : ℕ). has x j) e ∙ omega (arith, has-not k 0 j (pow-pos k) l, has-zero j)
+
+-- entries that are marked live and whose events are live are all kept
+kept-all : (f : ℕ → Bool) (l : List Entry) → ((i : ℕ) → i < length l → (f (entry l i .id) ≡ true) × (entry l i .live ≡ 1)) → kept f l ≡ l
+unfolding kept
+kept-all f [] all = refl
+kept-all f (e ∷ l) all =
+    ap (λ (t : List Entry). cond (f (e .id)) (fresh (e .id) (e .x) (e .z) ∷ t) t) (kept-all f l (λ i b. all (suc i) (suc-le-suc b)))
+    ∙ ap (λ (b : Bool). cond b (fresh (e .id) (e .x) (e .z) ∷ l) l) (all 0 (zero-lt-suc (length l)) .0)
+    ∙ ap (λ (v : ℕ). record { id = e .id; x = e .x; z = e .z; live = v } ∷ l) (sym (all 0 (zero-lt-suc (length l)) .1))
+
+-- what holds below j and of j holds below j + 1
+pub one-more : (P : ℕ → Type 0) (j : ℕ) → ((i : ℕ) → i < j → P i) → P j → (i : ℕ) → i < j + 1 → P i
+one-more P j below here i l = ⊎-elim (λ (e : i ≡ j). subst P (sym e) here) (λ n. below i (omega arith)) (same? i j)
+
+pub settled-none : (h : List ℕ) (base cap n len alive : ℕ) → Settled h base cap n len alive 0
+settled-none h base cap n len alive = record { within = omega arith; marked = λ c l. absurd (omega arith); live = λ i l. absurd (omega arith) }
+
+pub settled-more : (h : List ℕ) (base cap n len alive b : ℕ) → Settled h base cap n len alive b → b < len / 64 → getD h (livePlace base cap n b) 0 ≡ 2 ^ 64 - 1
+    → ((j : ℕ) → j < 64 → isLive h alive (getD h (base + 64 * b + j) 0) ≡ true) → Settled h base cap n len alive (b + 1)
+settled-more h base cap n len alive b s l e all = record {
+  within = omega arith;
+  marked = one-more (λ c. getD h (livePlace base cap n c) 0 ≡ 2 ^ 64 - 1) b (s .marked) e;
+  live = λ i k. elim (decLt i (64 * b)) [
+    | yes d ↦ s .live i d
+    | no d ↦ let q : base + 64 * b + (i - 64 * b) ≡ base + i = omega arith in ap (λ (p : ℕ). isLive h alive (getD h p 0)) (sym q) ∙ all (i - 64 * b) (omega arith)
+  ];
 }
+
+-- a rebuild begins behind the blocks that stay as they are
+module _ (h : List ℕ) (base cap n len alive b : ℕ) (m : List Entry) (s : Settled h base cap n len alive b) (long : length m ≡ len) (r : Reps h base cap n m) where
+  front-long : length (take (64 * b) m) ≡ 64 * b
+  front-long = length-take-le (64 * b) m (omega (arith, s .within))
+
+  front-at : (i : ℕ) → i < 64 * b → entry (take (64 * b) m) i ≡ entry m i
+  front-at i l = getD-take (64 * b) m i noEntry l
+
+  in-block : (c j : ℕ) → c < b → j < 64 → c * 64 + j < 64 * b
+  in-block c j l k = omega arith
+
+  block-used : (c : ℕ) → c < b → c < words (length m)
+  unfolding words
+  block-used c l = omega (arith, s .within)
+
+  marked-live : (i : ℕ) → i < 64 * b → entry m i .live ≡ 1
+  marked-live i l =
+      let c : i / 64 < b = omega arith in
+      let e : i / 64 * 64 + i % 64 ≡ i = omega arith in
+      ap (λ (k : ℕ). entry m k .live) (sym e) ∙ sym (r .lives (i / 64) (i % 64) (block-used (i / 64) c) (omega arith))
+      ∙ ap (λ (w : ℕ). has w (i % 64)) (s .marked (i / 64) c) ∙ has-ones 64 (i % 64) (omega arith)
+
+  all-kept : kept (isLive h alive) (take (64 * b) m) ≡ take (64 * b) m
+  all-kept = kept-all (isLive h alive) (take (64 * b) m) (λ i l.
+      let k : i < 64 * b = omega (arith, front-long) in (
+        ap (λ (e : Entry). isLive h alive (e .id)) (front-at i k) ∙ ap (isLive h alive) (sym (r .ids i (omega (arith, s .within)))) ∙ s .live i k,
+        ap (λ (e : Entry). e .live) (front-at i k) ∙ marked-live i k,
+      ))
+
+  front-reps : Reps h base cap n (take (64 * b) m)
+  unfolding words
+  front-reps = record {
+    within = omega (arith, front-long, s .within, r .within);
+    ids = λ i l. let k : i < 64 * b = omega (arith, front-long) in r .ids i (omega (arith, s .within)) ∙ ap (λ (e : Entry). e .id) (sym (front-at i k));
+    xs = λ c p j l lp lj. let k : c < b = omega (arith, front-long) in r .xs c p j (block-used c k) lp lj ∙ ap (λ (e : Entry). has (e .x) p) (sym (front-at (c * 64 + j) (in-block c j k lj)));
+    zs = λ c p j l lp lj. let k : c < b = omega (arith, front-long) in r .zs c p j (block-used c k) lp lj ∙ ap (λ (e : Entry). has (e .z) p) (sym (front-at (c * 64 + j) (in-block c j k lj)));
+    lives = λ c j l lj. let k : c < b = omega (arith, front-long) in r .lives c j (block-used c k) lj ∙ ap (λ (e : Entry). e .live) (sym (front-at (c * 64 + j) (in-block c j k lj)));
+  }
+
+  pub building-settled : Building h base cap n alive m (64 * b) (64 * b) h
+  building-settled = record {
+    count = ap length all-kept ∙ front-long;
+    reps = subst (λ (l : List Entry). Reps h base cap n l) (sym all-kept) front-reps;
+    only = record { same-length = refl; kept = λ j w. refl };
+  }
 
 pub is? : (b : Bool) → (b ≡ true) ⊎ (b ≡ false)
 is? true = inl refl
 is? false = inr refl
 
 module _ (h₀ : List ℕ) (base cap n len alive axes events : ℕ) (m : List Entry) (i k : ℕ) (h : List ℕ)
-    (long : length m ≡ len) (ids : (j : ℕ) → j < len → getD h₀ (base + j) 0 ≡ entry m j .id) (src : Source h₀ n axes events m)
+    (long : length m ≡ len) (held : Reps h₀ base cap n m) (src : Source h₀ n axes events m)
     (st : Building h₀ base cap n alive m i k h) (li : i < len) (lk : k ≤ i) (lc : len ≤ cap) (set-in : alive + words events ≤ base) (rows-in : axes + 2 * events ≤ base) where
   here : i < length m
   here = omega arith
 
   same-id : getD h (base + i) 0 ≡ entry m i .id
-  same-id = st .only .kept (base + i) (not-later base cap n k i lk (omega arith)) ∙ ids i li
+  same-id = st .only .kept (base + i) (not-later base cap n k i lk (omega arith)) ∙ held .ids i here
 
   same-live : isLive h alive (entry m i .id) ≡ isLive h₀ alive (entry m i .id)
   unfolding isLive words
@@ -260,15 +329,15 @@ module _ (h₀ : List ℕ) (base cap n len alive axes events : ℕ) (m : List En
 -- what the loop holds: the contract's last field after i entries, k of which were kept
 abbrev pub Built : List ℕ → (base cap n len alive axes events i k : ℕ) → List ℕ → Type 0
 Built h₀ base cap n len alive axes events i k h =
-    (m : List Entry) → length m ≡ len → ((j : ℕ) → j < len → getD h₀ (base + j) 0 ≡ entry m j .id) → Source h₀ n axes events m → Building h₀ base cap n alive m i k h
+    (m : List Entry) → length m ≡ len → Reps h₀ base cap n m → Source h₀ n axes events m → Building h₀ base cap n alive m i k h
 
 pub rebuilt : (h₀ : List ℕ) (base cap n len alive axes events i k : ℕ) (h : List ℕ) → length h ≡ length h₀ → len ≤ i → k ≤ len → Built h₀ base cap n len alive axes events i k h
     → Rebuilt h₀ base cap n len alive axes events (At k) h
 rebuilt h₀ base cap n len alive axes events i k h same l lk b = record {
   long = same;
   next = λ j e. omega (arith, at-same k j e);
-  all = λ m e ids src.
-      let st : Building h₀ base cap n alive m i k h = b m e ids src in
+  all = λ m e held src.
+      let st : Building h₀ base cap n alive m i k h = b m e held src in
       let whole : take i m ≡ m = take-all i m (omega arith) in
       let n-kept : length (kept (isLive h₀ alive) m) ≡ k = ap (λ (l : List Entry). length (kept (isLive h₀ alive) l)) (sym whole) ∙ st .count in (
         ap At (sym n-kept),
@@ -285,5 +354,5 @@ pub rebuilt-bad : (h₀ : List ℕ) (base cap n len alive axes events i k : ℕ)
 rebuilt-bad h₀ base cap n len alive axes events i k h b li lk lc sa ra same id g r q s e = record {
   long = s .long ∙ same;
   next = λ j z. absurd (bad-at j z);
-  all = λ m em ids src. absurd (turn-not-bad h₀ base cap n len alive axes events m i k h em ids src (b m em ids src) li lk lc sa ra id g r q s e);
+  all = λ m em held src. absurd (turn-not-bad h₀ base cap n len alive axes events m i k h em held src (b m em held src) li lk lc sa ra id g r q s e);
 }

@@ -159,7 +159,7 @@ module _ (h : List ℕ) (at base cap n : ℕ) (alive axes events : ℕ) (m : Lis
       ap (λ (v : ℕ). cond (dropsAt 2 (d + 1) v) (kept (isLive h alive) m) (set m pos (dead (entry m pos)))) same
       ∙ ap (λ (b : Bool). cond b (kept (isLive h alive) m) (set m pos (dead (entry m pos)))) yes in
       let none-dead : still 2 (d + 1) (length m) ≡ 0 = ap (λ (b : Bool). cond b 0 (d + 1)) yes in
-      let a = b .all m long (λ i li. s .reps .ids i (omega (arith, long))) src in
+      let a = b .all m long (s .reps) src in
       let count : j ≡ length (kept (isLive h alive) m) = at-same j (length (kept (isLive h alive) m)) (sym e ∙ a .0) in
       subst (λ (t : List Entry). SlicedTo h at base cap n t (still 2 (d + 1) (length m)) (set (set g at j) (at + 1) 0)) (sym to)
       (subst (λ (v : ℕ). SlicedTo h at base cap n (kept (isLive h alive) m) v (set (set g at j) (at + 1) 0)) (sym none-dead)
@@ -173,6 +173,6 @@ module _ (h : List ℕ) (at base cap n : ℕ) (alive axes events : ℕ) (m : Lis
 
   pub rebuilt-not-bad : (r : Next) (g : List ℕ) → r ≡ Bad → Source h n axes events m → Rebuilt h base cap n len alive axes events r g → ⊥
   rebuilt-not-bad r g e src b =
-      let a = b .all m long (λ i li. s .reps .ids i (omega (arith, long))) src in
+      let a = b .all m long (s .reps) src in
       let w : Bad ≡ At (length (kept (isLive h alive) m)) = sym e ∙ a .0 in
       let z : _≡_ {A = ℕ} 0 1 = cc in omega arith

@@ -2,7 +2,7 @@
 use mathlib.Core.Path.{_≡_}
 use mathlib.Core.Bool.{true, false, cond}
 use mathlib.Core.List.{List}
-use Prim.Native.Nat.{ℕ, _+_, _*_, _/_, _^_, _≤_, _<_}
+use Prim.Native.Nat.{ℕ, _+_, _-_, _*_, _/_, _^_, _≤_, _<_}
 use lib.Bits.{bitAnd, bitOr}
 use lib.Count.{ones}
 use lib.Dec.{eqb}
@@ -65,11 +65,17 @@ pub record Stepped (h : List ℕ) (base cap n k alive axes events id : ℕ) (r :
   pub next : (j : ℕ) → r ≡ At j → j ≤ k + 1
   pub long : length g ≡ length h
 
+-- the first b blocks of a list of len entries are full, of entries marked live whose events are live
+pub record Settled (h : List ℕ) (base cap n len alive b : ℕ) : Type 0 where
+  pub within : 64 * b ≤ len
+  pub marked : (c : ℕ) → c < b → getD h (livePlace base cap n c) 0 ≡ 2 ^ 64 - 1
+  pub live : (i : ℕ) → i < 64 * b → isLive h alive (getD h (base + i) 0) ≡ true
+
 -- the list of len entries becomes that of its live ones
 pub record Rebuilt (h : List ℕ) (base cap n len alive axes events : ℕ) (r : Next) (g : List ℕ) : Type 0 where
   pub long : length g ≡ length h
   pub next : (j : ℕ) → r ≡ At j → j ≤ len
-  pub all : (m : List Entry) → length m ≡ len → ((i : ℕ) → i < len → getD h (base + i) 0 ≡ entry m i .id) → Source h n axes events m
+  pub all : (m : List Entry) → length m ≡ len → Reps h base cap n m → Source h n axes events m
       → (r ≡ At (length (kept (isLive h alive) m))) × Reps g base cap n (kept (isLive h alive) m)
       × Only (UsedBlocks base cap n (length (kept (isLive h alive) m))) h g
 

@@ -22,11 +22,11 @@ ghost use lib.ListN.{length, getD};
 ghost use Rattle.model.specs.Pauli.{has};
 ghost use Rattle.model.specs.Events.{State, words};
 ghost use Rattle.model.specs.Search.{walk, listAt, slicedList};
-ghost use Rattle.lists.specs.Lists.{Room, still, Rises};
+ghost use Rattle.lists.specs.Lists.{Room, isLive, still, Rises};
 ghost use Rattle.sliced.specs.Blocks.{Entry, entry, entryOf, fresh, slicedRoom, Reps, Sliced, SlicedTo, Source, RisingIds, killedAt};
 ghost use Rattle.lists.specs.Scalars.{pushed};
 ghost use Rattle.lists.specs.Scans.{scanOf};
-ghost use Rattle.sliced.specs.Steps.{Cleared, Marked, Opened, Appended, Killed, Stepped, Rebuilt, Spread, visited, andThen};
+ghost use Rattle.sliced.specs.Steps.{Cleared, Marked, Opened, Appended, Killed, Stepped, Settled, Rebuilt, Spread, visited, andThen};
 
 // ---- recording
 
@@ -148,6 +148,55 @@ fn keep(
     Next::At(k)
 }
 
+// Whether the events of the 64 numbers from `at` on are live.
+fn all_live(h: &[u64], at: usize, alive: usize, events: usize) -> bool
+    requires { ⌜ (at + 64 ≤ length (now h)) × (alive + words events ≤ at) × (events ≤ at) ⌝ }
+    ensures { λ r. ⌜ (r ≡ true → (j : ℕ) → j < 64 → isLive (now (h .entry)) alive (getD (now (h .entry)) (at + j) 0) ≡ true) ⌝ }
+{
+    let end = alive + (events + 63) / 64;
+    let mut j = 0;
+    while j < 64 {
+        let e = h[at + j] as usize;
+        if events <= e {
+            return false;
+        }
+        if contains(&h[alive..end], e) {
+            j += 1;
+        } else {
+            return false;
+        }
+    }
+    true
+}
+
+// How many blocks at the front are full of live entries. A rebuild leaves these as they are: what merges away is mostly recent.
+fn settled(
+    h: &[u64],
+    base: usize,
+    cap: usize,
+    n: usize,
+    len: usize,
+    alive: usize,
+    events: usize,
+) -> usize
+    requires { ⌜ Spread (now h) base cap n × (len ≤ cap) × (alive + words events ≤ base) × (events ≤ base) ⌝ }
+    ensures { λ r. ⌜ Settled (now (h .entry)) base cap n len alive r ⌝ }
+{
+    let lives = base + cap + (cap + 63) / 64 * (2 * n);
+    let mut b = 0;
+    while b < len / 64 {
+        if h[lives + b] != !0 {
+            return b;
+        }
+        if all_live(h, base + 64 * b, alive, events) {
+            b += 1;
+        } else {
+            return b;
+        }
+    }
+    b
+}
+
 // Drops the entries whose events are dead; the answer is how many are left.
 fn rebuild(
     h: &mut [u64],
@@ -162,8 +211,8 @@ fn rebuild(
     requires { ⌜ Spread (now h) base cap n × (len ≤ cap) × (alive + words events ≤ base) × (axes + 2 * events ≤ base) ⌝ }
     ensures { λ r. ⌜ Rebuilt (now (h .entry)) base cap n len alive axes events r (now (h .exit)) ⌝ }
 {
-    let mut i = 0;
-    let mut k = 0;
+    let mut i = 64 * settled(h, base, cap, n, len, alive, events);
+    let mut k = i;
     while i < len {
         let id = h[base + i];
         match keep(h, base, cap, n, k, alive, axes, events, id) {
