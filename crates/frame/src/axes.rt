@@ -98,7 +98,7 @@ pub fn y_product(s: &[u64], n: usize, l: usize, q: usize, out: &mut [u64]) -> bo
 // ---- labels
 
 // The kinds of axis.
-#[derive(Drop)]
+#[derive(Clone, Copy)]
 pub enum Kind {
     X,
     Y,

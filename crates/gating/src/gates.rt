@@ -9,7 +9,7 @@ ghost use Rattle.gating.specs.Gates.{gate_of};
 use frame::axes::Kind;
 
 // 01's gates. Of a gate on two qubits the first is the control.
-#[derive(Drop)]
+#[derive(Clone, Copy)]
 pub enum Gate {
     H(usize),
     X(usize),

@@ -9,7 +9,7 @@ ghost use Rattle.history.specs.Sizes.{form_of, Sized, ListsHeld, ListsTo, Newcom
 use lists::budget::{Budget, Scan};
 use pauli::rows::signature;
 
-#[derive(Drop)]
+#[derive(Clone, Copy)]
 pub enum Form {
     Scalar,
     Sliced,

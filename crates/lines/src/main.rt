@@ -1,5 +1,7 @@
 // The line program (01, "The line program"): a job comes from standard input, its answers go to standard output. What they are is `session`'s; here bytes
 // are read in blocks and handed on, and the bytes handed back are written.
+#![tactic(auto)]
+
 use session::run::{Ran, last, run, start};
 
 // Cannot be called: its callers prove that they do not come here.

@@ -3,7 +3,7 @@ ghost use Rattle.std.specs.Prelude.{◌≡◌};
 ghost use Rattle.lists.specs.Scans.{spend_of};
 
 // Steps left: a quantity apart from event numbers.
-#[derive(Drop)]
+#[derive(Clone, Copy)]
 pub struct Budget(pub u32);
 
 #[derive(Drop)]

@@ -14,7 +14,7 @@ use history::record::Kept;
 use pauli::rows::Signum;
 use store::header::Sizes;
 
-#[derive(Drop)]
+#[derive(Clone, Copy)]
 pub enum Mark {
     Rotation { kind: Kind, q: usize, tag: u32 },
     Measure(usize),

@@ -124,7 +124,7 @@ pub fn look(s: &[u64], kind: Kind, q: usize) -> Sight
 
 // ---- any of the calls that write, but an opening
 
-#[derive(Drop)]
+#[derive(Clone, Copy)]
 pub enum Call {
     Gate(Gate),
     Turn { kind: Kind, k: u64, q: usize },

@@ -9,4 +9,6 @@
 //     Answers   the same of a call that only reads
 // proofs/Theorems.antt says what that means for any calls in a row: `Since-computes`, `Since-never_nine`, `one_exit`, `short_exit`, `one_opening`,
 // `demand_three`, `two_stores`. docs/PROMISES.md holds them against the sentences of the mission and of 01.
+#![tactic(auto)]
+
 pub mod calls;

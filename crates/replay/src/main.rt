@@ -1,6 +1,8 @@
 // Many jobs through the session of the line program, to compare its answers with those of oracle/: the original's search, under a line program that shares
 // no code with ours. The file `stdin` holds the jobs, with the byte 30 behind each; `stdout` has, for job K, a line `job=K` and its answers. Both are
 // made by oracle/vectors.sh. After a session stops, the rest of its job is skipped.
+#![tactic(auto)]
+
 ghost use Rattle.std.specs.Prelude.{◌+◌, ◌≤◌, ◌<◌, ◌^◌, length};
 ghost use Rattle.replay.specs.declared.Job.TheVariants as jobs;
 ghost use Rattle.replay.specs.Jobs.{Open, Leads};

@@ -1,6 +1,8 @@
 // 01's proved cases 9, 10 and 12 run on the proved code of `history`, on one qubit. Each line says what the code answered, and the file
 // `stdout` what 01 says: `rt check` runs the program and compares the two. All events are rotations about Z0 with the label 0. The words are
 // not zero at the start, and a later case finds those of an earlier one: a history that is opened relies on none of them.
+#![tactic(auto)]
+
 ghost use Rattle.std.specs.Prelude.{◌≡◌, ◌≤◌, length};
 ghost use Rattle.model.specs.Events.{scalar};
 ghost use Rattle.history.specs.Sizes.{form_of, Sized};

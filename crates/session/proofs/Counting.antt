@@ -12,7 +12,7 @@ use Rattle.model.specs.Pauli.{Pauli}
 use Rattle.model.specs.Frame.{paulis, x_at, z_at}
 use Rattle.frame.specs.Axes.{kind_of}
 use Rattle.model.specs.Events.{Event, State, keep, event_at, live_at, record1, record_all, blocker_on, killed, kill, clear}
-use Rattle.model.specs.Calls.{accepted, recorded, not_killable, answer_to, reply_of, reply, reframed, rotation_of, seven, effect, call, tally}
+use Rattle.model.specs.Calls.{not_killable, answer_to, reply_of, reply, reframed, rotation_of, seven, effect, call, tally}
 use Rattle.model.specs.Demands.{living}
 use Rattle.model.proofs.Members.{keep_yes, keep_no, keep_append}
 use Rattle.model.proofs.Good.{passed}

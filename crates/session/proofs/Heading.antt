@@ -9,7 +9,7 @@ use lib.Seq.{take-suc-set}
 use Rattle.history.specs.declared.forms.Form as forms
 use Rattle.text.specs.declared.lines.Line.{Line}
 use Rattle.text.specs.declared.lines.Line.TheVariants as line
-use Rattle.session.specs.Session.{none, form, events, steps}
+use Rattle.session.specs.Session.{none}
 use Rattle.session.specs.Desk.{Within, Takes, TakesHead}
 use Rattle.session.specs.declared.stages.Stage.{Stage}
 use Rattle.session.specs.declared.stages.Stage.TheVariants as at

@@ -14,7 +14,7 @@ use Rattle.history.specs.declared.forms.Form as forms
 use Rattle.text.specs.Line.{reading_of}
 use Rattle.text.specs.Spoken.{bad, spoken}
 use Rattle.text.specs.Wrote.{Wrote}
-use Rattle.session.specs.Session.{Stage, on, stop, room, answered, fresh, Place, heard}
+use Rattle.session.specs.Session.{on, stop, room, answered, fresh, Place, heard}
 use Rattle.session.specs.Desk.{stage_of, Within, Tells, place_of, Sized, Hears, Fits}
 use Rattle.session.specs.declared.stages.Stage as code
 use Rattle.session.specs.declared.stages.Stage.TheVariants as at

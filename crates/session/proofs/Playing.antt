@@ -14,8 +14,8 @@ use Rattle.store.proofs.Splice.{splice, part_length, splice-length}
 use Rattle.model.specs.Events.{State}
 use Rattle.text.specs.Spoken.{Saying, bad, end, spoken}
 use Rattle.text.specs.Wrote.{Wrote}
-use Rattle.session.specs.Session.{Stage, Next, on, stop, Place, heard, saying, and_then, ran, finished, last_saying}
-use Rattle.session.specs.Desk.{stage_of, Running, Means, place_of, Sized, Hears, Fits, EndsRan, Plays, InsideRan, Runs, closing, last_of, Lasts}
+use Rattle.session.specs.Session.{Next, on, stop, Place, heard, saying, and_then, ran, finished, last_saying}
+use Rattle.session.specs.Desk.{stage_of, Means, place_of, Sized, Hears, Fits, EndsRan, Plays, InsideRan, Runs, closing, last_of, Lasts}
 use Rattle.session.specs.declared.stages.Stage as code
 use Rattle.session.specs.declared.stages.Stage.TheVariants as at
 use Rattle.session.specs.declared.stages.Talk.{Talk}

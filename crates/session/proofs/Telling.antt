@@ -41,7 +41,7 @@ use Rattle.text.specs.declared.lines.Line.TheVariants as line
 use Rattle.text.specs.declared.lines.Parsed.{Parsed}
 use Rattle.text.specs.declared.lines.Parsed.TheVariants as parsed
 use Rattle.text.proofs.Room.{spoken_room, spoken-Whole}
-use Rattle.session.specs.Session.{Stage, running, Next, on, stop, room, tried, settled, wrong, led, begun, answered_by, operated, obeyed, answered}
+use Rattle.session.specs.Session.{running, on, stop, room, tried, settled, wrong, led, begun, answered_by, operated, obeyed, answered}
 use Rattle.session.specs.Desk.{stage_of, Running, Means, Near, Within, Takes, Said, Tells, records_of, kills_of, counted, Counts, Does}
 use Rattle.session.specs.declared.stages.Stage as code
 use Rattle.session.specs.declared.stages.Stage.TheVariants as at

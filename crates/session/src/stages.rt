@@ -2,7 +2,7 @@
 use history::forms::Form;
 
 // Which line comes next, with what the lines before it gave.
-#[derive(Drop)]
+#[derive(Clone, Copy)]
 pub enum Stage {
     Qubits,
     Form {
@@ -33,7 +33,7 @@ pub enum Stage {
 }
 
 // How many lines are finished, how many bytes of the next are held in the lent line buffer, and the stage.
-#[derive(Drop)]
+#[derive(Clone, Copy)]
 pub struct Talk {
     pub line: u64,
     pub held: usize,

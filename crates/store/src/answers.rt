@@ -1,7 +1,7 @@
 // What the calls give back, each as one value. specs/Promises.antt gives 01's number and values for each case.
 
 // Done; or done, and the first event that was recorded has this number; or refused, with 01's number.
-#[derive(Drop)]
+#[derive(Clone, Copy)]
 pub enum Answer {
     Done,
     First(usize),

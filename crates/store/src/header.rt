@@ -11,7 +11,7 @@ use history::forms::Form;
 
 // The sizes of a store: n qubits, l words to a plane, the form of its lists, the room for events and the steps of a look; and where the history's
 // part begins and ends.
-#[derive(Drop)]
+#[derive(Clone, Copy)]
 pub struct Sizes {
     pub n: usize,
     pub l: usize,

@@ -1,6 +1,8 @@
 // 01's worked example and its twelve proved cases, by calls of the public library on one slice of words. Each line says what the library answered, and
 // the file `stdout` what 01 says, written by hand: `rt check` runs the program and compares the two. The words are not zero at the start, and each
 // opening finds those of the stores before it.
+#![tactic(auto)]
+
 use frame::axes::Kind;
 use gating::gates::Gate;
 use history::forms::Form;

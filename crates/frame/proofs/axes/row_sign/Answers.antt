@@ -1,0 +1,17 @@
+-- `frame::axes::row_sign` meets its contract. Assumes nothing.
+use mathlib.Core.Path.{sym, ap, ◌∙◌, subst}
+use Rattle.model.specs.Pauli.{Pauli, sign}
+use Rattle.pauli.specs.Rows.{answer}
+use Rattle.frame.proofs.AxisLaws.{row-behind, sign_or_none}
+use Rattle.frame.specs.Axes.{SignOrNone}
+use Rattle.frame.proofs.axes.row_sign.Goals as goal
+
+pub returns-clause-sign : goal.returns-clause-sign
+returns-clause-sign c =
+    let a = c.args in
+    (λ l p e r. c.sign.ensures ∙ ap (λ (v : Pauli). answer (sign v)) (row-behind l a.row.now p e r))
+
+pub returns-clause-one : goal.returns-clause-one
+returns-clause-one c =
+    let a = c.args in
+    subst SignOrNone (sym c.sign.ensures) (sign_or_none _)

@@ -1,0 +1,20 @@
+-- `lists::scalar::note_dead` meets its contract. Assumes nothing.
+use mathlib.Core.Path.{refl}
+use Rattle.lists.proofs.ScalarLaws.{noted_kept, noted_dropped}
+use native.Mathlib.Omega.{arith}
+use Rattle.lists.proofs.scalar.note_dead.Goals as goal
+
+pub returns-then-dead-len-clause-done : goal.returns-then-dead-len-clause-done
+returns-then-dead-len-clause-done c =
+    let a = c.args in
+    λ ids d m l f.
+    (refl, noted_kept a.h.now a.at a.base a.cap a.alive ids d c.requires.0 m (omega arith))
+
+pub returns-in-At-clause-done : goal.returns-in-At-clause-done
+returns-in-At-clause-done c =
+    let a = c.args in
+    λ ids d m l f. (
+      refl,
+      noted_dropped a.h.now a.at a.base a.cap a.alive ids d c.requires.0 m a.events f c.drop_dead.new.h c.drop_dead.result
+          c.drop_dead.ensures c.in-At.k c.in-At.is (omega arith),
+    )

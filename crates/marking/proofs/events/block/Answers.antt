@@ -1,0 +1,11 @@
+-- `marking::events::block` meets its contract: a row of the frame, then a record. Assumes nothing.
+use Rattle.marking.proofs.PutMarks.{row-Records}
+use native.Mathlib.Omega.{arith}
+use Rattle.marking.proofs.events.block.Goals as goal
+
+pub returns-clause-done : goal.returns-clause-done
+returns-clause-done c =
+    let a = c.args in
+    let row = c.row_into in
+    let x = c.put in
+    row-Records a.z a.s.now row.new.out c.requires.0 (omega arith) x.new.s x.result a.of_x a.q row.ensures x.ensures.done

@@ -1,0 +1,11 @@
+-- `marking::events::block_product` meets its contract: a product, then a record. Assumes nothing.
+use Rattle.marking.proofs.PutMarks.{product_Records}
+use native.Mathlib.Omega.{arith}
+use Rattle.marking.proofs.events.block_product.Goals as goal
+
+pub returns-clause-done : goal.returns-clause-done
+returns-clause-done c =
+    let a = c.args in
+    let row = c.product_into in
+    let x = c.put in
+    product_Records a.z a.s.now row.new.out c.requires.0 (omega arith) x.new.s x.result a.of_x a.a a.b a.t a.i c.requires.5 row.ensures x.ensures.done

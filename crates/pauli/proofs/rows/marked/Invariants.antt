@@ -1,0 +1,13 @@
+-- `pauli::rows::marked` meets its contract: what is found so far, with what is left of the word, is the whole. The measure is what is left.
+-- Assumes nothing.
+use mathlib.Core.Path.{◌≡◌}
+use Prim.Native.Nat.{ℕ, ◌<◌, ◌^◌}
+use lib.Bits.{bit_or}
+use Rattle.pauli.specs.Rows.{blocks, left}
+use Rattle.pauli.proofs.rows.marked.Given as goal
+
+abbrev pub invariant-loop-v : goal.invariant-loop-v
+invariant-loop-v l = (l.v < 2 ^ 64) × ((u : ℕ) → bit_or l.sum (blocks l.l (left u l.j l.v) 64) ≡ bit_or l.sig (blocks l.l (left u l.j l.w) 64))
+
+abbrev pub decreases-loop-v : goal.decreases-loop-v
+decreases-loop-v l = l.v

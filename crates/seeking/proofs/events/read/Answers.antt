@@ -1,0 +1,31 @@
+-- `seeking::events::read` meets its contract: by what the header and then `history` told. Assumes nothing.
+use Rattle.seeking.proofs.SeekLaws.{read_Says, read_nothing, read_bad}
+use Rattle.store.proofs.LentLaws.{planes_small, lent_counts}
+use Rattle.store.proofs.MeetLaws.{short_Answers, Damaged-Answers}
+use Rattle.store.proofs.SizeLaws.{tells_short, tells_bad}
+use Rattle.store.specs.Promises.{told_read}
+use Rattle.model.specs.Calls.{call_read}
+use Rattle.seeking.proofs.events.read.Goals as goal
+
+pub read-requires : goal.read-requires
+read-requires c = (lent_counts c.sizes_of-z.result c.args.s.now c.sizes_of-z.ensures, c.sizes_of-z.ensures.few, planes_small c.sizes_of-z.result c.args.s.now c.sizes_of-z.ensures)
+
+pub returns-in-Short : goal.returns-in-Short
+unfolding told_read
+returns-in-Short c = short_Answers (call_read c.args.id) c.args.s.now (tells_short c.args.s.now c.check.result c.in-Short.is c.check.ensures)
+
+pub returns-in-Bad : goal.returns-in-Bad
+unfolding told_read
+returns-in-Bad c = Damaged-Answers (call_read c.args.id) c.args.s.now (tells_bad c.args.s.now c.check.result c.in-Bad.is c.check.ensures)
+
+pub returns-in-Says : goal.returns-in-Says
+unfolding told_read
+returns-in-Says c = read_Says c.sizes_of-z.result c.args.s.now c.sizes_of-z.ensures c.args.id c.read.result c.read.ensures.refused c.read.ensures.says c.in-Says.tag c.in-Says.sign c.in-Says.live (record { sfits = c.in-Says.known_told-1-own.given.1.0.1 }) c.in-Says.is
+
+pub returns-in-Nothing : goal.returns-in-Nothing
+unfolding told_read
+returns-in-Nothing c = read_nothing c.sizes_of-z.result c.args.s.now c.sizes_of-z.ensures c.args.id c.read.result c.read.ensures.refused c.read.ensures.says c.in-Nothing.is
+
+pub returns-in-Bad-read : goal.returns-in-Bad-read
+unfolding told_read
+returns-in-Bad-read c = read_bad c.sizes_of-z.result c.args.s.now c.sizes_of-z.ensures c.args.id c.read.result c.read.ensures.refused c.read.ensures.says c.in-Bad-read.is

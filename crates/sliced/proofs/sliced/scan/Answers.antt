@@ -1,0 +1,141 @@
+-- `sliced::sliced::scan` meets its contract: what is answered so far and the rest of the walk are the whole of it, block by block. Assumes nothing.
+use mathlib.Core.Path.{◌≡◌, refl, sym, subst}
+use Prim.Native.Nat.{ℕ, ◌+◌, ◌-◌, ◌*◌, ◌/◌, ◌^◌, ◌≤◌, ◌<◌}
+use native.Mathlib.Omega.{arith}
+use borrow.Author.Rules.{rules}
+use lib.ListN.{length, get_or, take, drop}
+use Rattle.model.specs.Events.{words}
+use Rattle.lists.specs.declared.budget.Scan.{Scan}
+use Rattle.lists.specs.declared.budget.Scan.TheVariants.{Clear}
+use Rattle.sliced.specs.Blocks.{mask_place, live_place}
+use Rattle.sliced.specs.Gathered.{Marks}
+use Rattle.sliced.specs.Steps.{visited, and_then}
+use Rattle.sliced.proofs.RebuildLaws.{part_length}
+use Rattle.sliced.proofs.BlockWalk.{FirstIs, first_start, first_later, Remains, Remains-start, Answers, turn_end, turn_last, turn, masks_fit, next_masks, Marks-lent}
+use borrow.Enum.Refused.{opened}
+use Rattle.sliced.proofs.sliced.scan.Goals as goal
+use Rattle.sliced.proofs.sliced.scan.Goals.{After-visit_two-found, At-loop-b, In-loop-b, Start, Then-b-used}
+
+-- from the loop's head: where the masks and the live word of a block stand, and the laws of a turn
+abbrev at_of : At-loop-b → ℕ → ℕ
+at_of l b = let a = l.args in mask_place a.base a.cap a.n b
+
+abbrev live_of : At-loop-b → ℕ → ℕ
+live_of l b = let a = l.args in get_or a.h.now (live_place a.base a.cap a.n b) 0
+
+abbrev Rest : At-loop-b → ℕ → Scan → Type 0
+Rest l b r = let a = l.args in Remains a.h.now a.base a.cap a.n a.len a.after a.ax a.az a.budget.0 b r
+
+abbrev Answer : At-loop-b → Scan → Type 0
+Answer l r = let a = l.args in Answers a.h.now a.base a.cap a.n a.len a.after a.ax a.az a.budget.0 r
+
+part_in : (c : Start) → c.args.base + c.args.len ≤ length c.args.h.now
+part_in c = omega (arith, c.requires.0.fits, c.requires.1)
+
+fit : (l : At-loop-b) (b : ℕ) → b < words l.args.len
+    → at_of l b + 2 * l.args.n ≤ length l.args.h.now
+fit l b lb =
+    masks_fit l.args.h.now l.args.base l.args.cap l.args.n l.args.len b l.requires.0 l.requires.1 lb
+
+step : (l : At-loop-b) (b : ℕ) (r : Scan) (word first : ℕ) → Rest l b r → b < words l.args.len
+    → Marks l.args.h.now (at_of l b) l.args.n l.args.ax l.args.az word
+    → FirstIs first l.first_past-start.result b → Rest l (b + 1) (and_then r (visited (live_of l b) word first))
+step l b r word first rest lb marks fi =
+    let s = (goal.at.At-loop-b l).Start in
+    let a = l.args in
+    turn a.h.now a.base a.cap a.n a.len a.after a.ax a.az l.first_past-start.result a.budget (part_in s) l.first_past-start.ensures.splits b r rest word first lb
+    (omega (arith, l.type_inv.h (live_place a.base a.cap a.n b))) marks fi
+
+-- two blocks more stand in the slice
+two-fit : (c : In-loop-b) → at_of (goal.at.In-loop-b c).At-loop-b c.loop-b.b + 4 * c.args.n ≤ length c.args.h.now
+unfolding words
+two-fit c =
+    let a = c.args in
+    omega (arith, fit (goal.at.In-loop-b c).At-loop-b (c.loop-b.b + 1) c.loop-b-test.true, next_masks a.base a.cap a.n c.loop-b.b)
+
+one-fits : (c : Then-b-used)
+    → at_of (goal.at.Then-b-used c).At-loop-b c.loop-b.b + 2 * c.args.n ≤ length c.args.h.now
+unfolding words
+one-fits c = fit (goal.at.Then-b-used c).At-loop-b c.loop-b.b c.if-b-used.true
+
+-- the answer of two blocks
+two : (c : After-visit_two-found) → Rest (goal.at.After-visit_two-found c).At-loop-b (c.loop-b.b + 2) c.visit_two-found.result
+unfolding words and_then
+two c =
+    let l = (goal.at.After-visit_two-found c).At-loop-b in
+    let a = c.args in
+    let b : ℕ = c.loop-b.b in
+    let e : b + 1 + 1 ≡ b + 2 = omega arith in
+    let lb : b < words a.len = omega (arith, c.loop-b-test.true) in
+    let one : Marks a.h.now (at_of l b) a.n a.ax a.az c.anticommuting_two-words.result.one =
+    Marks-lent a.h.now (at_of l b) (4 * a.n) 0 a.n (at_of l b) a.n a.ax a.az c.anticommuting_two-words.result.one refl (omega arith) (omega arith) c.anticommuting_two-words.ensures.0 in
+    let other : Marks a.h.now (at_of l (b + 1)) a.n a.ax a.az c.anticommuting_two-words.result.other =
+    Marks-lent a.h.now (at_of l b) (4 * a.n) (2 * a.n) a.n (at_of l (b + 1)) a.n a.ax a.az c.anticommuting_two-words.result.other refl (omega arith) (next_masks a.base a.cap a.n b) c.anticommuting_two-words.ensures.1 in
+    subst (λ (k : ℕ). Rest l k c.visit_two-found.result) e (subst (Rest l (b + 1 + 1)) (sym c.visit_two-found.ensures)
+    (step l (b + 1) (visited (live_of l b) c.anticommuting_two-words.result.one c.loop-b.first c.loop-b.left) c.anticommuting_two-words.result.other (2 ^ 64 - 1)
+    (step l b (Clear c.loop-b.left) c.anticommuting_two-words.result.one c.loop-b.first c.loop-b.invariant.3 lb one c.loop-b.invariant.1)
+    c.loop-b-test.true other (first_later c.first_past-start.result (b + 1) (omega arith))))
+
+end : (l : At-loop-b) (b : ℕ) (r : Scan) → Rest l b r → words l.args.len ≤ b → Answer l r
+end l b r rest =
+    let s = (goal.at.At-loop-b l).Start in
+    let a = l.args in
+    turn_end a.h.now a.base a.cap a.n a.len a.after a.ax a.az l.first_past-start.result a.budget (part_in s) l.first_past-start.ensures.splits b r rest
+
+pub loop-b-init : goal.loop-b-init
+loop-b-init c =
+    let s = (goal.at.loop-b-init c).Start in (
+      omega arith,
+      first_start c.first_past-start.result,
+      omega (arith, c.first_past-start.ensures.within, part_length c.args.h.now c.args.base c.args.len (part_in s)),
+      Remains-start c.args.h.now c.args.base c.args.cap c.args.n c.args.len c.args.after c.args.ax c.args.az c.first_past-start.result c.args.budget (part_in s) c.first_past-start.ensures.splits,
+    )
+
+pub slice_bounds-anticommuting_two-end : goal.slice_bounds-anticommuting_two-end
+slice_bounds-anticommuting_two-end c = omega (arith, two-fit c)
+
+pub bounds-h-lives : goal.bounds-h-lives
+unfolding words
+bounds-h-lives c = search rules
+
+pub bounds-h-lives-in-loop-b : goal.bounds-h-lives-in-loop-b
+unfolding words
+bounds-h-lives-in-loop-b c = search rules
+
+pub returns-in_default : goal.returns-in_default
+returns-in_default c =
+    let e = (goal.at.returns-in_default c).After-visit_two-found in
+    let s = (goal.at.returns-in_default c).Start in
+    let a = c.args in
+    turn_last a.h.now a.base a.cap a.n a.len a.after a.ax a.az c.first_past-start.result a.budget (part_in s) c.first_past-start.ensures.splits (c.loop-b.b + 2) c.visit_two-found.result (two e) (opened c.in_default.in_default-own.keys2)
+
+pub loop-b-preserved : goal.loop-b-preserved
+loop-b-preserved c =
+    let e = (goal.at.loop-b-preserved c).After-visit_two-found in
+    let l = (goal.at.loop-b-preserved c).At-loop-b in
+    (omega arith, first_later c.first_past-start.result (c.loop-b.b + 2) (omega arith), omega arith, subst (Rest l (c.loop-b.b + 2)) c.in-Clear.is (two e))
+
+pub slice_bounds-anticommuting-end : goal.slice_bounds-anticommuting-end
+slice_bounds-anticommuting-end c = omega (arith, one-fits c)
+
+pub bounds-h-lives-then-b-used : goal.bounds-h-lives-then-b-used
+unfolding words
+bounds-h-lives-then-b-used c = search rules
+
+pub returns-then-b-used : goal.returns-then-b-used
+unfolding words and_then
+returns-then-b-used c =
+    let i = (goal.at.returns-then-b-used c).Then-b-used in
+    let l = (goal.at.returns-then-b-used c).At-loop-b in
+    let a = c.args in
+    let b : ℕ = c.loop-b.b in
+    let long : length (take (at_of l b + 2 * a.n - at_of l b) (drop (at_of l b) a.h.now)) ≡ 2 * a.n = part_length a.h.now (at_of l b) (2 * a.n) (one-fits i) in
+    let marks : Marks a.h.now (at_of l b) a.n a.ax a.az c.anticommuting-word.result =
+    Marks-lent a.h.now (at_of l b) (2 * a.n) 0 (length (take (at_of l b + 2 * a.n - at_of l b) (drop (at_of l b) a.h.now)) / 2) (at_of l b) a.n a.ax a.az c.anticommuting-word.result (omega arith) (omega arith) (omega arith) c.anticommuting-word.ensures in
+    end l (b + 1) c.visit.result (subst (Rest l (b + 1)) (sym c.visit.ensures) (step l b (Clear c.loop-b.left) c.anticommuting-word.result c.loop-b.first c.loop-b.invariant.3 c.if-b-used.true marks c.loop-b.invariant.1)) (omega (arith, c.loop-b-test.false))
+
+pub returns : goal.returns
+unfolding words
+returns c =
+    let l = (goal.at.returns c).At-loop-b in
+    end l c.loop-b.b (Clear c.loop-b.left) c.loop-b.invariant.3 c.if-b-used.false

@@ -1,0 +1,7 @@
+-- `answers::write_not_opened` meets its contract. Assumes nothing.
+use Rattle.text.specs.Spoken.{spoken}
+use Rattle.text.proofs.answers.write_not_opened.Goals as goal
+
+pub returns : goal.returns
+unfolding spoken
+returns c = c.write_by.ensures
