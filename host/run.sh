@@ -4,8 +4,8 @@
 set -euo pipefail
 cd "$(dirname "${BASH_SOURCE[0]}")"
 if [ -z "${TILLBONNET_LIB:-}" ]; then
-    (cd .. && rt staticlib host > /dev/null)
-    TILLBONNET_LIB=$(cd .. && pwd)/target/staticlib
+    (cd ../crates/host && rt lib > /dev/null)
+    TILLBONNET_LIB=$(cd ../crates/host/out && pwd)
 fi
 export TILLBONNET_LIB
 built=$(mktemp -d)

@@ -9,6 +9,8 @@ ghost use Rattle.replay.specs.Jobs.{Open, Leads};
 
 use session::run::{Ran, last, run, start};
 use session::stages::Talk;
+use std::io;
+use std::io::Read;
 
 // A job: none of its bytes is read; it goes on; or its session stopped.
 #[derive(Drop)]
@@ -40,20 +42,21 @@ fn until(bytes: &[u8], from: usize) -> usize
     i
 }
 
-// The line that names a job.
-fn name(number: u64) {
-    io::write_all(1, b"job=");
-    io::print_decimal(1, number);
-    io::write_all(1, b"\n");
+// Writes these bytes. A write that fails is passed over: the output is compared with the file `stdout`, and then lacks them.
+fn say(rt: &impl Print, bytes: &[u8]) {
+    let _ = rt.write_all(bytes);
 }
 
-// Cannot be called: its callers prove that they do not come here.
-fn never()
-    requires { ⊥ }
-{}
+// The line that names a job.
+fn name(rt: &impl Print, number: u64) {
+    say(rt, b"job=");
+    let _ = rt.print(number);
+    say(rt, b"\n");
+}
 
 // The next bytes of a job that goes on.
 fn talk(
+    rt: &impl Print,
     t: Talk,
     bytes: &[u8],
     buf: &mut [u8],
@@ -66,23 +69,21 @@ fn talk(
 {
     match run(t, bytes, buf, labels, store, out) {
         Ran::On(next, said) => {
-            io::write_all(1, &out[..said]);
+            say(rt, &out[..said]);
             Job::On(next)
         }
         Ran::Stop(said) => {
-            io::write_all(1, &out[..said]);
+            say(rt, &out[..said]);
             Job::Over
         }
-        // Only on slices of other sizes.
-        Ran::Unfit => {
-            never();
-            Job::Over
-        }
+        // Only on slices of other sizes: it is proved that these are not.
+        Ran::Unfit => unreachable!(),
     }
 }
 
 // The next bytes of any job.
 fn piece(
+    rt: &impl Print,
     p: Place,
     bytes: &[u8],
     buf: &mut [u8],
@@ -96,20 +97,20 @@ fn piece(
     let job = p.job;
     match job {
         Job::New => {
-            name(p.number);
-            talk(start(), bytes, buf, labels, store, out)
+            name(rt, p.number);
+            talk(rt, start(), bytes, buf, labels, store, out)
         }
-        Job::On(t) => talk(t, bytes, buf, labels, store, out),
+        Job::On(t) => talk(rt, t, bytes, buf, labels, store, out),
         Job::Over => Job::Over,
     }
 }
 
 // The end of a job.
-fn end(job: Job, out: &mut [u8]) {
+fn end(rt: &impl Print, job: Job, out: &mut [u8]) {
     match job {
         Job::On(t) => {
             let said = last(t, out);
-            io::write_all(1, &out[..said]);
+            say(rt, &out[..said]);
         }
         _ => {}
     }
@@ -117,6 +118,7 @@ fn end(job: Job, out: &mut [u8]) {
 
 // The bytes up to the next mark or the end of the block, and the mark.
 fn step(
+    rt: &impl Print,
     p: Place,
     bytes: &[u8],
     marked: bool,
@@ -129,9 +131,9 @@ fn step(
     ensures { Leads p.job bytes.now result.job buf.new labels.new store.new × (result.number ≤ p.number + 1) }
 {
     let number = p.number;
-    let next = piece(p, bytes, buf, labels, store, out);
+    let next = piece(rt, p, bytes, buf, labels, store, out);
     if marked {
-        end(next, out);
+        end(rt, next, out);
         return Place {
             number: number + 1,
             job: Job::New,
@@ -145,6 +147,7 @@ fn step(
 
 // A block of the input.
 fn block(
+    rt: &impl Print,
     from: Place,
     bytes: &[u8],
     buf: &mut [u8],
@@ -159,13 +162,22 @@ fn block(
     let mut i: usize = 0;
     while i < bytes.len() {
         let e = until(bytes, i);
-        p = step(p, &bytes[i..e], e < bytes.len(), buf, labels, store, out);
+        p = step(
+            rt,
+            p,
+            &bytes[i..e],
+            e < bytes.len(),
+            buf,
+            labels,
+            store,
+            out,
+        );
         i = e + 1;
     }
     p
 }
 
-fn main() {
+fn main(rt: HostRuntime) -> io::Result<()> {
     let mut p = Place {
         number: 1,
         job: Job::New,
@@ -174,16 +186,25 @@ fn main() {
     let mut labels = [0u64; 128];
     let mut store = [0u64; 4401];
     let mut out = [0u8; 65536];
+    let mut input = rt.stdin();
     // A proved loop ends: so many reads are never made.
     let mut turns: u64 = 1099511627776;
     while turns > 0 {
         let mut bytes = [0u8; 512];
-        let got = libc::read(0, &mut bytes);
-        if got <= 0 {
+        let n = input.read(&mut bytes)?;
+        if n == 0 {
             break;
         }
-        let n = io::count(got, &bytes);
-        p = block(p, &bytes[..n], &mut buf, &mut labels, &mut store, &mut out);
+        p = block(
+            &rt,
+            p,
+            &bytes[..n],
+            &mut buf,
+            &mut labels,
+            &mut store,
+            &mut out,
+        );
         turns -= 1;
     }
+    Ok(())
 }
