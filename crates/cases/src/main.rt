@@ -1,5 +1,5 @@
 // 01's proved cases 5 to 8 as calls of `frame`, on one qubit. Each check is proved from the contracts alone, and made once more when
-// the program runs, which `rt check` does. It prints nothing: a check that failed would stop it.
+// the program runs, which `rt ci` does. It prints nothing: a check that failed would stop it.
 #![tactic(auto)]
 
 ghost use Rattle.std.specs.Prelude.{◌≡◌};

@@ -107,7 +107,7 @@ pub enum Kind {
 }
 
 // The two words of a label.
-#[derive(Drop)]
+#[derive(Clone, Copy)]
 pub struct Tag {
     pub high: u64,
     pub low: u64,

@@ -15,7 +15,6 @@ use Rattle.model.proofs.Members.{clash}
 use Rattle.model.proofs.Lists.{gone, gone_other, gone_x, gone_z}
 use Rattle.pauli.specs.Rows.{signature}
 use Rattle.lists.specs.Lists.{Among}
-use Rattle.history.specs.declared.forms.Form.{Form}
 use Rattle.history.specs.declared.events.Told.{Told}
 use Rattle.history.specs.declared.events.Told.TheVariants.{Says, Nothing, Bad}
 use Rattle.history.specs.Newest.{link_place}

@@ -1,5 +1,5 @@
 -- What a kill writes. Assumes nothing.
-use Rattle.std.specs.Prelude.{◌≡◌, ◌⊎◌, true, List, ℕ, ◌+◌, ◌*◌, ◌/◌, ◌<◌, length, set}
+use Rattle.std.specs.Prelude.{◌≡◌, ◌⊎◌, true, List, ℕ, ◌+◌, ◌/◌, ◌<◌, length, set}
 use Rattle.model.specs.Events.{Event, event_at, live_at, is_rotation, killed}
 use Rattle.lists.specs.Lists.{Among, Only}
 use Rattle.history.specs.declared.kill.Killed.{Killed}

@@ -1,6 +1,6 @@
 -- What a look finds, as the code answers it, and what is left of its first phase on the way. What is met and what it costs is `model`'s.
 -- Assumes nothing.
-use Rattle.std.specs.Prelude.{◌≡◌, true, List, map, ℕ, ◌-◌, ◌*◌, ◌%◌, ◌≤◌, ◌<◌, length, get_or, ℤ, pos, negsuc, ◌*ℤ◌}
+use Rattle.std.specs.Prelude.{◌≡◌, true, List, map, ℕ, ◌-◌, ◌%◌, ◌≤◌, ◌<◌, length, get_or, ℤ, pos, negsuc, ◌*ℤ◌}
 use Rattle.model.specs.Sketch.{Label}
 use Rattle.model.specs.Events.{Form, State, keep, event_at}
 use Rattle.model.specs.Search as search

@@ -7,7 +7,6 @@ use Rattle.model.specs.Search.{list_at}
 use Rattle.model.specs.Store.{list_count}
 use Rattle.model.specs.Calls.{tag_at}
 use Rattle.model.specs.Demands.{Listed, Signed}
-use Rattle.lists.specs.Lists as lists
 use Rattle.lists.specs.Lists.{Among, Only, live_in}
 use Rattle.lists.specs.Scalars.{UsedScalar}
 use Rattle.sliced.specs.Blocks.{entry_of, sliced_room, UsedSliced}

@@ -23,7 +23,7 @@ pub fn link(h: &mut [u64], cap: usize, k: usize, id: usize)
 }
 
 // A cell of a chain; or that the chain does not have the event, or does not fall.
-#[derive(Drop)]
+#[derive(Clone, Copy)]
 pub enum Cell {
     At(usize),
     Lost,

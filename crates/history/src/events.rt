@@ -9,7 +9,7 @@ ghost use Rattle.history.specs.Readings.{read_of, nothing};
 use pauli::sets::contains;
 
 // What a new event keeps beside its axis.
-#[derive(Drop)]
+#[derive(Clone, Copy)]
 pub enum Body {
     Rotation {
         tag: u32,
@@ -33,7 +33,7 @@ pub fn body_word(tag: u32, sign: i8) -> u64
 }
 
 // What a rotation keeps and whether it is live; or that there is no such rotation; or that a stored value is bad.
-#[derive(Drop)]
+#[derive(Clone, Copy)]
 pub enum Told {
     Says { tag: u32, sign: i8, live: bool },
     Nothing,

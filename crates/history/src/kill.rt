@@ -42,7 +42,7 @@ fn kill_live(h: &mut [u64], form: Form, n: usize, l: usize, cap: usize, id: usiz
 }
 
 // Done; or no such event, a blocker, or dead; or a stored value is bad.
-#[derive(Drop)]
+#[derive(Clone, Copy)]
 pub enum Killed {
     Done,
     Refused,

@@ -14,7 +14,7 @@ use lists::budget::{Budget, Scan};
 use pauli::rows::product;
 
 // What a look says, with the steps spent; or that a stored value is bad.
-#[derive(Drop)]
+#[derive(Clone, Copy)]
 pub enum Seen {
     Found { id: usize, sign: i8, steps: u32 },
     Free(u32),

@@ -55,7 +55,7 @@ fn put_event(h: &mut [u64], l: usize, cap: usize, id: usize, axis: &[u64], sig: 
 }
 
 // The number of a new event; or that there is no room for it, or a stored value is bad.
-#[derive(Drop)]
+#[derive(Clone, Copy)]
 pub enum Kept {
     As(usize),
     Bad,

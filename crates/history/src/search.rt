@@ -11,7 +11,7 @@ use lists::budget::{Budget, Spent};
 use pauli::rows::same;
 
 // What phase 1 finds, with the steps left; or that a stored value is bad.
-#[derive(Drop)]
+#[derive(Clone, Copy)]
 pub enum Cand {
     Match(usize, Budget),
     Nothing(Budget),
@@ -20,7 +20,7 @@ pub enum Cand {
 }
 
 // What one event of a chain leads to: an older one, or the end.
-#[derive(Drop)]
+#[derive(Clone, Copy)]
 pub enum Visit {
     On(usize, Budget),
     Stop(Cand),

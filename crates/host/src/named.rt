@@ -7,19 +7,19 @@ use frame::axes::Kind;
 use gating::gates::Gate;
 use history::forms::Form;
 
-#[derive(Drop)]
+#[derive(Clone, Copy)]
 pub enum NamedGate {
     Known(Gate),
     Unknown,
 }
 
-#[derive(Drop)]
+#[derive(Clone, Copy)]
 pub enum NamedKind {
     Known(Kind),
     Unknown,
 }
 
-#[derive(Drop)]
+#[derive(Clone, Copy)]
 pub enum NamedForm {
     Known(Form),
     Unknown,

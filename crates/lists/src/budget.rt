@@ -6,7 +6,7 @@ ghost use Rattle.lists.specs.Scans.{spend_of};
 #[derive(Clone, Copy)]
 pub struct Budget(pub u32);
 
-#[derive(Drop)]
+#[derive(Clone, Copy)]
 pub enum Spent {
     Left(Budget),
     Short,
@@ -26,7 +26,7 @@ impl Budget {
 }
 
 // What a scan finds, with the steps left; or that a stored value is bad.
-#[derive(Drop)]
+#[derive(Clone, Copy)]
 pub enum Scan {
     Clear(Budget),
     Blocked(Budget),

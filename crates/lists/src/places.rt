@@ -68,7 +68,7 @@ pub fn first_past(ids: &[u64], after: u64) -> usize
 }
 
 // A place in a list, or that the number is not there.
-#[derive(Drop)]
+#[derive(Clone, Copy)]
 pub enum Place {
     At(usize),
     Lost,

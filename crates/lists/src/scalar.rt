@@ -35,7 +35,7 @@ pub fn push(h: &mut [u64], at: usize, base: usize, cap: usize, id: u64) -> bool
 // ---- a death
 
 // Where the next number that is kept goes; or that a stored number is bad.
-#[derive(Drop)]
+#[derive(Clone, Copy)]
 pub enum Step {
     At(usize),
     Bad,
@@ -118,7 +118,7 @@ pub fn note_dead(
 // ---- a scan
 
 // What an entry is to a scan.
-#[derive(Drop)]
+#[derive(Clone, Copy)]
 pub enum Met {
     Past,
     Hit,

@@ -6,9 +6,9 @@ use mathlib.Core.Bool.{true, false, false≢true}
 use mathlib.Core.List.{List, [], ◌∷◌, map}
 use native.Mathlib.Nat.{not-suc-le-zero, le_of_suc-le-suc}
 use lib.Bits.{bit_xor}
-use lib.IntN.{ℤ, ◌*ℤ◌}
-use lib.ListN.{length, get_or}
-use Rattle.model.specs.Pauli.{Pauli, times, sign}
+use lib.IntN.{ℤ}
+use lib.ListN.{length}
+use Rattle.model.specs.Pauli.{Pauli, times}
 use Rattle.model.specs.Frame.{Kind, kind_x, kind_z, axis, paulis, x_at, z_at}
 use Rattle.model.specs.Events.{Body, rotation, blocker, is_rotation, Event, Opening, State, event_at, blocker_on}
 use Rattle.model.specs.Search.{sign_at}

@@ -1,22 +1,19 @@
 -- Rows of ours and of the paper's are the same things, and so are our frames and theirs, row for row. Assumes nothing.
-use Prim.Native.Nat.{ℕ, ◌+◌, ◌*◌, ◌/◌, ◌%◌, ◌^◌, ◌<◌}
-use mathlib.Core.Path.{◌≡◌, sym, ap, ◌∙◌, subst}
-use mathlib.Core.Logic.{◌⊎◌, inl, inr}
+use Prim.Native.Nat.{ℕ, ◌+◌, ◌*◌, ◌/◌, ◌%◌, ◌<◌}
+use mathlib.Core.Path.{◌≡◌, sym, ap, ◌∙◌}
+use mathlib.Core.Logic.{inl, inr}
 use mathlib.Core.List.{List, [], ◌∷◌, append-nil}
 use native.Mathlib.Omega.{arith}
 use native.Mathlib.Nat.{mod-lt}
 use lib.Bits.{bit_and}
 use lib.Dec.{lit<}
-use lib.IntN.{ℤ, ◌*ℤ◌}
-use Rattle.model.specs.Pauli.{Pauli, count, times, quarter, sign_of, sign, anti}
+use Rattle.model.specs.Pauli.{Pauli, count, quarter, sign_of, sign}
 use Rattle.model.specs.Frame.{Kind, kind_x, kind_z, Gate, x_at, z_at, gate, axis, paulis, fresh, Rows}
-use Rattle.model.specs.Events.{Event, Opening, State, event_at}
-use Rattle.model.specs.Search.{found, sign_at, look}
-use Rattle.model.specs.Calls.{open_answer, opened, Lent, calls, rotation_of}
-use Rattle.model.specs.Demands.{Fits, HasSign, Named, Says}
-use Rattle.model.proofs.Theorems.{look_true, product_signed}
+use Rattle.model.specs.Events.{Opening}
+use Rattle.model.specs.Calls.{opened, Lent, calls}
+use Rattle.model.specs.Demands.{Fits, HasSign}
 use Rattle.model.proofs.Products.{quarter-lt, quarter_whole, m4_cancel, m4_mod, m4_low, Even, has_sign, sign_quarter, Even-mod, mod-Even}
-use Rattle.paper.specs.Tableau.{Row, run, inverse, total, rowsum, Step}
+use Rattle.paper.specs.Tableau.{Row, run, inverse, Step}
 use Rattle.paper.specs.Bridge.{AllFit, to_row, of_row, row_sign, single, circuit, circuits, gates, applied, carried}
 use Rattle.paper.proofs.Frames.{Tracks, tracks, axis_reads, axis-Small}
 

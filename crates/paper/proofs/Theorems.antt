@@ -1,19 +1,19 @@
 -- The frames are Aaronson and Gottesman's: the theorems of docs/PROMISES.md about `paper`. But for `computed`, their statements are in the words of
 -- specs/ alone. Assumes nothing.
 use Prim.Native.Nat.{ℕ, ◌^◌, ◌<◌}
-use mathlib.Core.Path.{◌≡◌, ap, ap₂, ◌∙◌, sym, subst}
+use mathlib.Core.Path.{◌≡◌, ap₂, ◌∙◌, sym, subst}
 use mathlib.Core.Logic.{◌⊎◌}
-use mathlib.Core.List.{List, [], ◌∷◌, append-nil}
+use mathlib.Core.List.{List}
 use lib.IntN.{ℤ, ◌*ℤ◌}
 use Rattle.model.specs.Pauli.{Pauli, times, sign, anti}
 use Rattle.model.specs.Frame.{Kind, kind_x, kind_z, Gate, x_at, z_at, gate, axis, paulis, fresh}
 use Rattle.model.specs.Events.{Opening, State, event_at}
-use Rattle.model.specs.Search.{found, sign_at, look}
+use Rattle.model.specs.Search.{found, look}
 use Rattle.model.specs.Calls.{open_answer, opened, Lent, calls}
-use Rattle.model.specs.Demands.{Fits, HasSign, Match, Named, Says, Recorded}
+use Rattle.model.specs.Demands.{Fits, HasSign, Named, Says, Recorded}
 use Rattle.model.proofs.Theorems.{look_true, product_signed}
 use Rattle.model.proofs.Products.{Even}
-use Rattle.paper.specs.Tableau.{Row, Step, run, inverse, total, rowsum}
+use Rattle.paper.specs.Tableau.{Row, run, inverse, total, rowsum}
 use Rattle.paper.specs.Bridge.{to_row, of_row, row_sign, single, circuit, circuits, gates, AllFit, theirs, Is, row_at, carried}
 use Rattle.paper.proofs.Cases.{Tables, tables}
 use Rattle.paper.proofs.Rowsum.{total-quarter, product_rowsum}

@@ -15,7 +15,7 @@ use Rattle.model.specs.Frame.{Kind, axis, paulis}
 use Rattle.model.specs.Events.{Form, Opening, State, words, plane, dead, keep, some}
 use Rattle.model.specs.Search.{Look, found, none, blocked, out, look, list_at}
 use Rattle.model.specs.Store.{need, list_count}
-use Rattle.model.specs.Calls.{Call, call_open, call_gate, call_turn, call_record, call_measure, call_reset, call_ccx, call_ccz, call_kill, call_read, call_clear, call_look, Lent, is_too_wide, open_number, open_answer, opened, opening, answer, answer_to, twice, Reply, refused, accepted, says, looked, reply_of, reply, effect, call, calls, replies}
+use Rattle.model.specs.Calls.{Call, call_open, call_gate, call_turn, call_record, call_measure, call_reset, call_ccx, call_ccz, call_kill, call_read, call_clear, call_look, Lent, is_too_wide, open_number, open_answer, opened, opening, answer, answer_to, twice, Reply, refused, accepted, looked, reply_of, reply, effect, call, calls, replies}
 use Rattle.model.specs.Demands.{Mem, Share, occurs, Listed, NotOut, Says, SameReplies, is_opening}
 use Rattle.model.proofs.Good.{Good, Good-look}
 use Rattle.model.proofs.Kept.{listed}

@@ -41,7 +41,7 @@ fn ys(x: &[u64], z: &[u64]) -> u64
 // ---- signs
 
 // The sign of a row, or that it has none.
-#[derive(Drop)]
+#[derive(Clone, Copy)]
 pub enum Signum {
     Is(i8),
     No,

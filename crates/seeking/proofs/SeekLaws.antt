@@ -36,7 +36,6 @@ use Rattle.frame.specs.declared.axes.Kind.TheVariants as kinds
 use Rattle.frame.specs.declared.axes.Tag.{Tag}
 use Rattle.frame.proofs.AxisLaws.{behind, row-behind, is_sign, some_sign}
 use Rattle.history.specs.Words.{body_word, Holds, Sane, Becomes}
-use Rattle.history.specs.Sizes as history
 use Rattle.history.specs.Sizes.{form_of}
 use Rattle.history.specs.Kills as kills
 use Rattle.history.specs.Readings.{read_of, nothing}

@@ -80,7 +80,7 @@ module _ (t : Talk) (buf ls store out : List ℕ) (b : ℕ) (sized : Sized t buf
   held-length : length (take t.held buf) ≡ t.held
   held-length = length-take-le t.held buf held_part
 
-  module _ (newline : b ≡ 10) (r : Told) (ls' store' out' : List ℕ) (same_ls : length ls' ≡ length ls) (same_Store : length store' ≡ length store)
+  module _ (newline : b ≡ 10) (r : Told) (ls' store' out' : List ℕ) (same_ls : length ls' ≡ length ls) (same_store : length store' ≡ length store)
       (tells : Tells (answered (t.line + 1) (reading_of (take t.held buf))) t.stage ls store out r ls' store' out') where
     told_is : (x : Told) → r ≡ x → Tells (answered (t.line + 1) (reading_of (take t.held buf))) t.stage ls store out x ls' store' out'
     told_is x e = subst (λ (y : Told). Tells (answered (t.line + 1) (reading_of (take t.held buf))) t.stage ls store out y ls' store' out') e tells
@@ -95,7 +95,7 @@ module _ (t : Talk) (buf ls store out : List ℕ) (b : ℕ) (sized : Sized t buf
         let d = told_is (telling.On s n) e in
         record {
           ends = (
-            record { line_room = sized.line_room; label_room = same_ls ∙ sized.label_room; store_room = same_Store ∙ sized.store_room; held = omega arith; within = d.ends.0 },
+            record { line_room = sized.line_room; label_room = same_ls ∙ sized.label_room; store_room = same_store ∙ sized.store_room; held = omega arith; within = d.ends.0 },
             omega arith,
             d.ends.1,
           );

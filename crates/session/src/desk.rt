@@ -19,7 +19,7 @@ use text::answers::{write_answer, write_bad, write_not_opened, write_sight};
 use text::lines::{Line, Parsed, read_line};
 
 // To go on from a stage, or to stop; with how many bytes are said.
-#[derive(Drop)]
+#[derive(Clone, Copy)]
 pub enum Told {
     On(Stage, usize),
     Stop(usize),

@@ -8,7 +8,7 @@ use history::forms::Form;
 use text::lines::Line;
 
 // The stage that a line leads to; or it is not the one that comes next, or names too much.
-#[derive(Drop)]
+#[derive(Clone, Copy)]
 pub enum Took {
     Next(Stage),
     Wrong,

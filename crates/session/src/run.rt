@@ -15,7 +15,7 @@ enum Heard {
 }
 
 // The same of a block; or `run` was lent slices of other sizes than it names, or a talk that is none of its own, and nothing was done.
-#[derive(Drop)]
+#[derive(Clone, Copy)]
 pub enum Ran {
     On(Talk, usize),
     Stop(usize),
@@ -204,7 +204,7 @@ pub fn last(t: Talk, out: &mut [u8]) -> usize
 }
 
 // How many bytes were said to a whole input; or out is too short, and nothing was done.
-#[derive(Drop)]
+#[derive(Clone, Copy)]
 pub enum Served {
     All(usize),
     Unfit,

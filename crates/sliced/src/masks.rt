@@ -29,7 +29,7 @@ pub fn anticommuting(masks: &[u64], ax: u64, az: u64) -> u64
 
 // ---- two blocks, whose masks stand side by side
 
-#[derive(Drop)]
+#[derive(Clone, Copy)]
 pub struct Two {
     pub one: u64,
     pub other: u64,

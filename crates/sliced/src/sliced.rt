@@ -101,7 +101,7 @@ pub fn push(
 // ---- a death
 
 // Where the next entry that is kept goes; or that a stored value is bad.
-#[derive(Drop)]
+#[derive(Clone, Copy)]
 pub enum Next {
     At(usize),
     Bad,

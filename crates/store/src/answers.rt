@@ -9,14 +9,14 @@ pub enum Answer {
 }
 
 // What a read gives: tag, sign and whether the rotation is live; or that the read is refused.
-#[derive(Drop)]
+#[derive(Clone, Copy)]
 pub enum Reading {
     Says { tag: u32, sign: i8, live: bool },
     Refused(u32),
 }
 
 // What a look says, with the steps spent; or that it is refused. `Nothing` is 01's "none".
-#[derive(Drop)]
+#[derive(Clone, Copy)]
 pub enum Sight {
     Found { id: usize, sign: i8, steps: u32 },
     Nothing(u32),

@@ -23,7 +23,7 @@ pub struct Sizes {
 }
 
 // What the frames' part of the header says: n and l; or that the slice is too short; or that a word is out of its range.
-#[derive(Drop)]
+#[derive(Clone, Copy)]
 pub enum Framed {
     Ready(usize, usize),
     Short,
@@ -31,7 +31,7 @@ pub enum Framed {
 }
 
 // What the whole header says: its sizes are in their ranges and all their words are there (`sizes_of` reads them); or as above.
-#[derive(Drop)]
+#[derive(Clone, Copy)]
 pub enum Checked {
     Ready,
     Short,

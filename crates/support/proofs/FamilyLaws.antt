@@ -4,7 +4,7 @@
 --     more      a turn: list p becomes its new one, and only words that it relies on are written
 --     all       where it ends, all lists are the new ones, or, off the signature, the old ones
 --     before    the words before the counts are as they were
--- Said once for both forms; `scalars-..` and `sliceds-..` are the two. Assumes nothing.
+-- Said once for both forms; `Scalars-..` and `Sliceds-..` are the two. Assumes nothing.
 use mathlib.Core.Path.{◌≡◌, refl, sym, ap, ap₂, ◌∙◌, subst}
 use mathlib.Core.Logic.{◌⊎◌, inl, inr, ⊎_elim}
 use mathlib.Core.Bool.{Bool, true, false, cond, not, false≢true}
@@ -27,7 +27,7 @@ use Rattle.pauli.proofs.Digits.{three, has_past, has-or}
 use Rattle.pauli.proofs.Walk.{same?}
 use Rattle.lists.specs.Lists.{Only, Among, Counts, Known, is_live, left, drops_at}
 use Rattle.lists.specs.Scalars.{Scalar, UsedScalar, ScalarTo, noted}
-use Rattle.sliced.specs.Blocks.{Entry, entry, dead, sliced_room, live_place, mask_place, Reps, Sliced, UsedSliced, SlicedTo, Source, kept, killed_at}
+use Rattle.sliced.specs.Blocks.{Entry, entry, sliced_room, live_place, mask_place, Reps, Sliced, UsedSliced, SlicedTo, Source, kept, killed_at}
 use Rattle.sliced.proofs.BlockLaws.{bit?}
 use Rattle.support.specs.Families.{chosen, Scalars, ScalarsTo, Sliceds, SlicedsTo}
 

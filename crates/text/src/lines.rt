@@ -11,7 +11,7 @@ use history::forms::Form;
 use partner::calls::Call;
 
 // A line of the input, by value: the four of the header, a label with the high and the low word of X and of Z, a call that writes, or a look.
-#[derive(Drop)]
+#[derive(Clone, Copy)]
 pub enum Line {
     Qubits(u64),
     Form(Form),
@@ -31,7 +31,7 @@ pub enum Line {
     },
 }
 
-#[derive(Drop)]
+#[derive(Clone, Copy)]
 pub enum Parsed {
     Line(Line),
     Bad,

@@ -5,7 +5,7 @@ ghost use Rattle.text.specs.Taken.{nibble as Taken·nibble, number_at, word_at, 
 ghost use Rattle.text.specs.Fit.{Stands, fitted, zeros, pushed};
 
 // The values of a shape, in order, the last of them in e.
-#[derive(Drop)]
+#[derive(Clone, Copy)]
 pub struct Five {
     pub a: u64,
     pub b: u64,
@@ -30,7 +30,7 @@ impl Five {
 }
 
 // What a text is under a shape.
-#[derive(Drop)]
+#[derive(Clone, Copy)]
 pub enum Fit {
     Hit(Five),
     Miss,
