@@ -89,10 +89,11 @@ def triples(rows):
 
 
 def matrices():
-    gates = {"H 0": on(0, H), "X 0": on(0, X), "Y 0": on(0, Y), "Z 0": on(0, Z), "S 0": on(0, S), "Sdg 0": on(0, SDG), "Sx 0": on(0, SX),
-             "Cnot 0 1": controlled(0, 1, X), "Cz 0 1": controlled(0, 1, Z), "Swap 0 1": SWAP, "Cy 0 1": controlled(0, 1, Y),
-             "S 1": on(1, S), "H 1": on(1, H), "Cnot 1 0": controlled(1, 0, X)}
-    turns = {"turned2 kind%s %d" % (name, k): on(0, rotation(axis, k)) for name, axis in (("X", X), ("Y", Y), ("Z", Z)) for k in (2, 4, 6)}
+    gates = {"h_gate 0": on(0, H), "x_gate 0": on(0, X), "y_gate 0": on(0, Y), "z_gate 0": on(0, Z), "s_gate 0": on(0, S),
+             "sdg_gate 0": on(0, SDG), "sx_gate 0": on(0, SX), "cnot_gate 0 1": controlled(0, 1, X), "cz_gate 0 1": controlled(0, 1, Z),
+             "swap_gate 0 1": SWAP, "cy_gate 0 1": controlled(0, 1, Y),
+             "s_gate 1": on(1, S), "h_gate 1": on(1, H), "cnot_gate 1 0": controlled(1, 0, X)}
+    turns = {"turned2 kind_%s %d" % (name, k): on(0, rotation(axis, k)) for name, axis in (("x", X), ("y", Y), ("z", Z)) for k in (2, 4, 6)}
     return gates, turns
 
 
@@ -105,7 +106,9 @@ def images():
 
 ONE = [(0, 0), (1, 0), (1, 1), (0, 1)]
 TWO = [(x, z) for x in range(4) for z in range(4)]
-ROWS = [["H 0", "S 0"], ["S 0", "H 0"], ["S 0", "Cnot 0 1", "H 1", "S 1", "Cz 0 1"], ["Sx 0", "Cy 0 1", "Swap 0 1", "Sdg 0", "Cnot 1 0", "H 0"]]
+ROWS = [["h_gate 0", "s_gate 0"], ["s_gate 0", "h_gate 0"],
+        ["s_gate 0", "cnot_gate 0 1", "h_gate 1", "s_gate 1", "cz_gate 0 1"],
+        ["sx_gate 0", "cy_gate 0 1", "swap_gate 0 1", "sdg_gate 0", "cnot_gate 1 0", "h_gate 0"]]
 
 
 def exponents():
