@@ -23,6 +23,7 @@ use store::header::{Checked, Sizes, check, sizes_of};
 
 // The partner `id` as the answer of a look: the relative sign is the product of the sign it keeps and the row's own. Only here is the row's sign
 // worked out, which takes a walk over its words. That `kept` is a sign is known of words that hold a state, so it is compared and not multiplied.
+#[tactic(auto, unfolding(store::specs::Promises::told_look, store::specs::Promises::number))]
 fn relative(id: usize, kept: i8, steps: u32, row: &[u64]) -> Sight
     requires { length row.now % 2 ≡ 1 }
     ensures few { number (told_look result) ≤ 9 }

@@ -337,6 +337,9 @@ module _ (n a b t : ℕ) where
   unfolding qubit_number some twice
   triple_in h k l d e f = rw (lt-leb n a h, lt-leb n b k, lt-leb n t l, ne_eqb a b d, ne_eqb a t e, ne_eqb b t f) refl
 
+-- all of them, for a look through them
+pub ruleset triple_laws = (triple_out₁, triple_out₂, triple_out₃, triple_same₁, triple_same₂, triple_same₃, triple_in)
+
 -- ---- the machine's arithmetic
 
 pub frame_small : (n l : ℕ) → n ≤ 23168 → l ≤ 362 → 2 * n * (2 * l + 1) ≤ 33593600

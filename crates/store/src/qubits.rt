@@ -27,6 +27,7 @@ pub fn pair(n: usize, a: usize, b: usize) -> u32
     0
 }
 
+#[tactic(auto, using(crate::proofs::SizeLaws::triple_laws))]
 pub fn triple(n: usize, a: usize, b: usize, t: usize) -> u32
     ensures { result ≡ qubit_number n (a ∷ b ∷ t ∷ []) }
 {

@@ -4,15 +4,12 @@ use Rattle.searches.proofs.SizeLaws.{scalar_long}
 use native.Mathlib.Omega.{arith}
 use Rattle.searches.proofs.killed.Goals as goal
 
--- src/main.rt:104:11
 pub kill-requires : goal.kill-requires
 unfolding form_of
 kill-requires g c = c.requires
 
--- src/main.rt:113:24
 pub bounds-h-35 : goal.bounds-h-35
 bounds-h-35 g c = omega (arith, scalar_long c.args.h.now c.requires, c.kill.ensures.long)
 
--- src/main.rt:114:22
 pub bounds-h-36 : goal.bounds-h-36
 bounds-h-36 g c = omega (arith, scalar_long c.args.h.now c.requires, c.kill.ensures.long)

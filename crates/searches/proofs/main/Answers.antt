@@ -4,40 +4,32 @@ use Rattle.history.specs.Sizes.{form_of}
 use Rattle.searches.proofs.SizeLaws.{scalar-Sized, sliced-Sized}
 use Rattle.searches.proofs.main.Goals as goal
 
--- src/main.rt:120:5
 pub searched-requires : goal.searched-requires
 unfolding form_of
 searched-requires c = scalar-Sized _ refl
 
--- src/main.rt:121:5
 pub searched-requires-2 : goal.searched-requires-2
 unfolding form_of
 searched-requires-2 c = scalar-Sized _ c.searched.ensures
 
--- src/main.rt:123:5
 pub searched-requires-3 : goal.searched-requires-3
 unfolding form_of
 searched-requires-3 c = sliced-Sized _ refl
 
--- src/main.rt:124:5
 pub searched-requires-4 : goal.searched-requires-4
 unfolding form_of
 searched-requires-4 c = sliced-Sized _ c.searched-3.ensures
 
--- src/main.rt:125:5
 pub searched-requires-5 : goal.searched-requires-5
 unfolding form_of
 searched-requires-5 c = sliced-Sized _ (c.searched-4.ensures ∙ c.searched-3.ensures)
 
--- src/main.rt:126:9
 pub filled-kept-requires : goal.filled-kept-requires
 unfolding form_of
 filled-kept-requires c = scalar-Sized _ (c.searched-2.ensures ∙ c.searched.ensures)
 
--- src/main.rt:127:5
 pub killed-requires : goal.killed-requires
 killed-requires c = scalar-Sized _ (c.filled-kept.ensures ∙ c.searched-2.ensures ∙ c.searched.ensures)
 
--- src/main.rt:128:5
 pub killed-requires-2 : goal.killed-requires-2
 killed-requires-2 c = scalar-Sized _ (c.killed.ensures ∙ c.filled-kept.ensures ∙ c.searched-2.ensures ∙ c.searched.ensures)

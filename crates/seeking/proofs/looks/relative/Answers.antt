@@ -2,15 +2,7 @@
 use Rattle.store.specs.Promises.{number, told_look}
 use Rattle.frame.proofs.AxisLaws.{is_signed}
 use Rattle.seeking.proofs.SeekLaws.{Relative-none, Relative-same, Relative-other}
-use native.Mathlib.Omega.{arith}
 use Rattle.seeking.proofs.looks.relative.Goals as goal
-
-pub returns-in-No-clause-few : goal.returns-in-No-clause-few
-unfolding told_look number
-returns-in-No-clause-few c =
-    let a = c.args in
-    let r = c.row_sign in
-    omega arith
 
 pub returns-in-No-clause-says : goal.returns-in-No-clause-says
 unfolding told_look number
@@ -19,13 +11,6 @@ returns-in-No-clause-says c =
     let r = c.row_sign in
     Relative-none a.row.now r.result r.ensures.sign a.id a.steps a.kept c.in-No.is
 
-pub returns-then-kept-eq1-clause-few : goal.returns-then-kept-eq1-clause-few
-unfolding told_look number
-returns-then-kept-eq1-clause-few c =
-    let a = c.args in
-    let r = c.row_sign in
-    omega arith
-
 pub returns-then-kept-eq1-clause-says : goal.returns-then-kept-eq1-clause-says
 unfolding told_look number
 returns-then-kept-eq1-clause-says c =
@@ -33,13 +18,6 @@ returns-then-kept-eq1-clause-says c =
     let r = c.row_sign in
     Relative-same a.row.now r.result r.ensures.sign a.id a.steps a.kept c.in-Is.own (is_signed r.result c.in-Is.own r.ensures.one c.in-Is.is) c.in-Is.is
     c.if-kept-eq1.true
-
-pub returns-else-kept-eq1-clause-few : goal.returns-else-kept-eq1-clause-few
-unfolding told_look number
-returns-else-kept-eq1-clause-few c =
-    let a = c.args in
-    let r = c.row_sign in
-    omega arith
 
 pub returns-else-kept-eq1-clause-says : goal.returns-else-kept-eq1-clause-says
 unfolding told_look number

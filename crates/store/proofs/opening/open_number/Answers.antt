@@ -31,39 +31,39 @@ returns-then-too_wide c =
 pub returns-then-cap-eq0 : goal.returns-then-cap-eq0
 returns-then-cap-eq0 c =
     let a = c.args in
-    no_events a.n a.cap a.allowance (form_of a.form) a.labels a.words c.if-n-eq0.false c.if-n-gt23168.false c.if-allowance-gt1048576.false (sym c.too_wide.ensures ∙ c.if-too_wide.false) c.if-cap-eq0.true
+    no_events a.n a.cap a.allowance (form_of a.form) a.labels a.words c.if-n-eq0.false (omega arith) c.if-allowance-gt1048576.false (sym c.too_wide.ensures ∙ c.if-too_wide.false) c.if-cap-eq0.true
 
 pub returns-then-cap-gt16777216 : goal.returns-then-cap-gt16777216
 returns-then-cap-gt16777216 c =
     let a = c.args in
-    many_events a.n a.cap a.allowance (form_of a.form) a.labels a.words c.if-n-eq0.false c.if-n-gt23168.false c.if-allowance-gt1048576.false (sym c.too_wide.ensures ∙ c.if-too_wide.false) c.if-cap-gt16777216.true
+    many_events a.n a.cap a.allowance (form_of a.form) a.labels a.words c.if-n-eq0.false (omega arith) c.if-allowance-gt1048576.false (sym c.too_wide.ensures ∙ c.if-too_wide.false) c.if-cap-gt16777216.true
 
 pub returns-then-l-cap-gt33554432 : goal.returns-then-l-cap-gt33554432
 unfolding words
 returns-then-l-cap-gt33554432 c =
     let a = c.args in
-    long_axes a.n a.cap a.allowance (form_of a.form) a.labels a.words c.if-n-eq0.false c.if-n-gt23168.false c.if-allowance-gt1048576.false (sym c.too_wide.ensures ∙ c.if-too_wide.false) c.if-l-cap-gt33554432.true
+    long_axes a.n a.cap a.allowance (form_of a.form) a.labels a.words c.if-n-eq0.false (omega arith) c.if-allowance-gt1048576.false (sym c.too_wide.ensures ∙ c.if-too_wide.false) c.if-l-cap-gt33554432.true
 
 pub returns-then-labels-n : goal.returns-then-labels-n
 unfolding words
 returns-then-labels-n c =
     let a = c.args in
-    wrong_labels a.n a.cap a.allowance (form_of a.form) a.labels a.words c.if-n-eq0.false c.if-n-gt23168.false c.if-allowance-gt1048576.false (sym c.too_wide.ensures ∙ c.if-too_wide.false) c.if-cap-eq0.false c.if-l-cap-gt33554432.false c.if-labels-n.true
+    wrong_labels a.n a.cap a.allowance (form_of a.form) a.labels a.words c.if-n-eq0.false (omega arith) c.if-allowance-gt1048576.false (sym c.too_wide.ensures ∙ c.if-too_wide.false) c.if-cap-eq0.false c.if-l-cap-gt33554432.false c.if-labels-n.true
 
 pub overflow_add-at-4 : goal.overflow_add-at-4
 unfolding words
 overflow_add-at-4 c =
     let a = c.args in
-    omega (arith, frame_fits a.n c.if-n-gt23168.false, c.history_room.ensures, room_small (form_of a.form) a.n a.cap ((a.n + 63) / 64) c.if-n-gt23168.false c.if-cap-gt16777216.false (few_planes a.n c.if-n-gt23168.false))
+    omega (arith, frame_fits a.n (omega arith), c.history_room.ensures, room_small (form_of a.form) a.n a.cap ((a.n + 63) / 64) (omega arith) c.if-cap-gt16777216.false (few_planes a.n (omega arith)))
 
 pub returns-then-words-at : goal.returns-then-words-at
 unfolding words
 returns-then-words-at c =
     let a = c.args in
-    small_store a.n a.cap a.allowance (form_of a.form) a.labels a.words c.if-n-eq0.false c.if-n-gt23168.false c.if-allowance-gt1048576.false (sym c.too_wide.ensures ∙ c.if-too_wide.false) c.if-cap-eq0.false c.if-l-cap-gt33554432.false (omega (arith, c.if-words-at.true, c.history_room.ensures))
+    small_store a.n a.cap a.allowance (form_of a.form) a.labels a.words c.if-n-eq0.false (omega arith) c.if-allowance-gt1048576.false (sym c.too_wide.ensures ∙ c.if-too_wide.false) c.if-cap-eq0.false c.if-l-cap-gt33554432.false (omega (arith, c.if-words-at.true, c.history_room.ensures))
 
 pub returns : goal.returns
 unfolding words
 returns c =
     let a = c.args in
-    all_fits a.n a.cap a.allowance (form_of a.form) a.labels a.words c.if-n-eq0.false c.if-n-gt23168.false c.if-allowance-gt1048576.false (sym c.too_wide.ensures ∙ c.if-too_wide.false) c.if-cap-eq0.false c.if-l-cap-gt33554432.false c.if-labels-n.false (omega (arith, c.if-words-at.false, c.history_room.ensures))
+    all_fits a.n a.cap a.allowance (form_of a.form) a.labels a.words c.if-n-eq0.false (omega arith) c.if-allowance-gt1048576.false (sym c.too_wide.ensures ∙ c.if-too_wide.false) c.if-cap-eq0.false c.if-l-cap-gt33554432.false c.if-labels-n.false (omega (arith, c.if-words-at.false, c.history_room.ensures))

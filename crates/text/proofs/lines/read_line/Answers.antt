@@ -15,10 +15,10 @@ made-requires c =
     (omega arith, tagged _ l.k _ (sym c.attempt.ensures ∙ c.in-Hit.is))
 
 pub returns-in-Hit-clause-reads : goal.returns-in-Hit-clause-reads
-returns-in-Hit-clause-reads c = (read_both _ _ (Reads-hit _ c.loop-k.k _ (omega arith) (sym c.attempt.ensures ∙ c.in-Hit.is) _ c.made.ensures c.if-s-gt80.false)).0
+returns-in-Hit-clause-reads c = (read_both _ _ (Reads-hit _ c.loop-k.k _ (omega arith) (sym c.attempt.ensures ∙ c.in-Hit.is) _ c.made.ensures (omega arith))).0
 
 pub returns-in-Hit-clause-is : goal.returns-in-Hit-clause-is
-returns-in-Hit-clause-is c = (read_both _ _ (Reads-hit _ c.loop-k.k _ (omega arith) (sym c.attempt.ensures ∙ c.in-Hit.is) _ c.made.ensures c.if-s-gt80.false)).1
+returns-in-Hit-clause-is c = (read_both _ _ (Reads-hit _ c.loop-k.k _ (omega arith) (sym c.attempt.ensures ∙ c.in-Hit.is) _ c.made.ensures (omega arith))).1
 
 pub returns-clause-reads : goal.returns-clause-reads
 returns-clause-reads c = (read_both _ _ (reads_none _ (λ j h. c.loop-k.invariant.1 j (omega arith)))).0

@@ -23,11 +23,11 @@ returns-then-value-eq0 c =
 
 pub returns-then-next-limit : goal.returns-then-next-limit
 returns-then-next-limit c =
-    as_miss c.args.s.now _ (c.loop-i.invariant.2 ∙ more_over _ _ c.loop-i-test.true _ _ _ c.nibble-d.ensures c.if-d-ge10.false c.if-value-eq0.false c.if-next-limit.true)
+    as_miss c.args.s.now _ (c.loop-i.invariant.2 ∙ more_over _ _ c.loop-i-test.true _ _ _ c.nibble-d.ensures c.if-d-ge10.false (omega arith) c.if-next-limit.true)
 
 pub loop-i-preserved : goal.loop-i-preserved
 loop-i-preserved c =
-    (omega arith, omega arith, c.loop-i.invariant.2 ∙ more_next _ _ c.loop-i-test.true _ _ _ c.nibble-d.ensures c.if-d-ge10.false c.if-value-eq0.false c.if-next-limit.false)
+    (omega arith, omega arith, c.loop-i.invariant.2 ∙ more_next _ _ c.loop-i-test.true _ _ _ c.nibble-d.ensures c.if-d-ge10.false (omega arith) c.if-next-limit.false)
 
 pub returns : goal.returns
 returns c = as_got _ _ _ _ (omega arith) (c.loop-i.invariant.2 ∙ end_more _ _ _ _ c.loop-i-test.false)
