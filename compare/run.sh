@@ -3,7 +3,7 @@
 # Without numbers a quick share, some 25 seconds on one core. TILLBONNET_LIB names a folder with another libhost.a.
 set -e
 cd "$(dirname "$0")"
-if [ ! -e "${TILLBONNET_LIB:-../crates/host/out}/libhost.a" ]; then (cd ../crates/host && rt lib > /dev/null); fi
+if [ ! -e "${TILLBONNET_LIB:-../crates/host/out}/libhost.a" ]; then (cd ../crates/host && rt lib --cpu=x86-64 > /dev/null); fi
 cargo build --release --offline --quiet
 quick=
 if [ $# -eq 0 ]; then quick=--quick; fi

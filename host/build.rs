@@ -1,4 +1,4 @@
-// Links libhost.a, which `rt lib` in ../crates/host writes to ../crates/host/out; TILLBONNET_LIB names another folder.
+// Links libhost.a, which `rt lib --cpu=x86-64` in ../crates/host writes to ../crates/host/out; TILLBONNET_LIB names another folder.
 fn main() {
     println!("cargo:rerun-if-env-changed=TILLBONNET_LIB");
     let here = std::env::var("CARGO_MANIFEST_DIR").expect("cargo sets it");

@@ -4,7 +4,7 @@
 set -euo pipefail
 cd "$(dirname "${BASH_SOURCE[0]}")"
 if [ -z "${TILLBONNET_LIB:-}" ]; then
-    (cd ../crates/host && rt lib > /dev/null)
+    (cd ../crates/host && rt lib --cpu=x86-64 > /dev/null)
     TILLBONNET_LIB=$(cd ../crates/host/out && pwd)
 fi
 export TILLBONNET_LIB

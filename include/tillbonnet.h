@@ -8,7 +8,8 @@
  * 0); `first`, `says` and `labels` lie outside the store. Two stores can be used by two threads; of one store, several looks and reads may run at
  * a time.
  *
- * Build: rt lib in crates/host, then link crates/host/out/libhost.a (x86-64; it needs memset and the like of the C library and nothing else).
+ * Build: rt lib --cpu=x86-64 in crates/host, then link crates/host/out/libhost.a (any x86-64 processor; --cpu=x86-64-v3 makes it for newer ones
+ * alone). It needs memset and the like of the C library and nothing else.
  */
 #ifndef TILLBONNET_INCLUDED
 #define TILLBONNET_INCLUDED
