@@ -3,6 +3,7 @@
 #![tactic(auto)]
 
 pub mod bits;
+pub mod corrupt;
 pub mod fill;
 pub mod rows;
 pub mod sets;
