@@ -1,6 +1,6 @@
 -- What the words of a row on one qubit say of its number. Assumes nothing.
 use mathlib.Core.Path.{◌≡◌, refl, sym, ap, ap₂, ◌∙◌}
-use mathlib.Core.Bool.{Bool, true, false, cond, ◌&&◌}
+use mathlib.Core.Bool.{Bool, cond, ◌&&◌}
 use mathlib.Core.List.{List}
 use Prim.Native.Nat.{ℕ}
 use native.Mathlib.Nat.{zero-add}
@@ -10,7 +10,8 @@ use borrow.Author.Tests.{eq-eqb, ne_eqb}
 use Rattle.model.specs.Pauli.{Pauli, count_in, count, times, shift, plain, quarter, sign_of, sign}
 use Rattle.model.specs.Frame.{s_gate, sdg_gate, sx_gate, kind_y, x_at, z_at, set_x, set_z, gate_h, gate_s, gate, axis, paulis, from, pauli_x, pauli_z, fresh}
 use Rattle.pauli.specs.Rows.{value_at, answer}
-use Rattle.pauli.specs.declared.rows.Signum.{Signum}
+use Rattle.std.proofs.Common.{ℤ, Option}
+use Rattle.frame.specs.declared.axes.Basis.TheVariants as basis
 use Rattle.frame.specs.Places.{IsRow}
 use Rattle.frame.specs.Axes.{either, axis_of}
 use Rattle.cases.specs.Seen.{number_of, of_y}
@@ -24,7 +25,7 @@ module _ (row : List ℕ) (p : Pauli) (r : IsRow 1 row 0 p) where
   unfolding value_at
   z_word = sym r.z ∙ zero-add (get_or row 2 0)
 
-  pub is_y : (g : Signum) (n : ℕ) → get_or row 1 0 ≡ 1 → get_or row 2 0 ≡ 1 → g ≡ answer (sign p) → n ≡ number_of g → n ≡ of_y p
+  pub is_y : (g : Option ℤ) (n : ℕ) → get_or row 1 0 ≡ 1 → get_or row 2 0 ≡ 1 → g ≡ answer (sign p) → n ≡ number_of g → n ≡ of_y p
   unfolding of_y
   is_y g n hx hz e f =
       f ∙ ap number_of e
@@ -45,14 +46,14 @@ pub case5_is : number_of (answer (sign (axis paulis kind_y 0 (fresh 1)))) ≡ 1
 unfolding count_in count times shift plain quarter sign_of sign x_at z_at set_x set_z gate_h gate_s gate axis paulis from pauli_x pauli_z fresh answer either axis_of number_of of_y
 case5_is = refl
 
-pub case6_is : of_y (axis_of true (gate paulis (s_gate 0) (fresh 1)) 0) ≡ 2
+pub case6_is : of_y (axis_of basis.X (gate paulis (s_gate 0) (fresh 1)) 0) ≡ 2
 unfolding count_in count times shift plain quarter sign_of sign x_at z_at set_x set_z gate_h gate_s gate axis paulis from pauli_x pauli_z fresh answer either axis_of number_of of_y
 case6_is = refl
 
-pub case7_is : of_y (axis_of true (gate paulis (sdg_gate 0) (fresh 1)) 0) ≡ 1
+pub case7_is : of_y (axis_of basis.X (gate paulis (sdg_gate 0) (fresh 1)) 0) ≡ 1
 unfolding count_in count times shift plain quarter sign_of sign x_at z_at set_x set_z gate_h gate_s gate axis paulis from pauli_x pauli_z fresh answer either axis_of number_of of_y
 case7_is = refl
 
-pub case8_is : of_y (axis_of false (gate paulis (sx_gate 0) (fresh 1)) 0) ≡ 1
+pub case8_is : of_y (axis_of basis.Z (gate paulis (sx_gate 0) (fresh 1)) 0) ≡ 1
 unfolding count_in count times shift plain quarter sign_of sign x_at z_at set_x set_z gate_h gate_s gate axis paulis from pauli_x pauli_z fresh answer either axis_of number_of of_y
 case8_is = refl

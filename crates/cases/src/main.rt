@@ -10,30 +10,30 @@ ghost use Rattle.frame.specs.Places.{Sized, Held};
 ghost use Rattle.frame.specs.Axes.{axis_of};
 ghost use Rattle.cases.specs.Seen.{number_of, of_y};
 
-use pauli::rows::Signum;
+use frame::axes::Basis;
 
 // A sign as a number: 1 for +1, 2 for -1, 0 for none.
-fn number(g: Signum) -> u64
+fn number(g: Option<i8>) -> u64
     ensures { result ≡ number_of g }
 {
     match g {
-        Signum::Is(v) => { if v == 1 { 1 } else { 2 } }
-        Signum::No => 0,
+        Some(1) => 1,
+        Some(_) => 2,
+        None => 0,
     }
 }
 
 // The sign of the row x[0] or z[0] as a number if the row is Y, else 3.
-fn of_y(s: &[u64], of_x: bool) -> u64
+fn of_y(s: &[u64], basis: Basis) -> u64
     requires { Sized 2 1 s.now }
-    ensures { (f : Rows Pauli) (k : Rows Label) → Held 1 1 f k s.now → result ≡ of_y (axis_of of_x f 0) }
+    ensures { (f : Rows Pauli) (k : Rows Label) → Held 1 1 f k s.now → result ≡ of_y (axis_of basis f 0) }
 {
-    let row = frame::axes::axis_row(s, 1, 1, of_x, 0);
-    if row[1] == 1 {
-        if row[2] == 1 {
-            return number(frame::axes::row_sign(row));
-        }
+    let row = frame::axes::axis_row(s, 1, 1, basis, 0);
+    if row[1] == 1 && row[2] == 1 {
+        number(frame::axes::row_sign(row))
+    } else {
+        3
     }
-    3
 }
 
 // The fresh y axis has the sign +1.
@@ -42,7 +42,7 @@ fn case5() {
     let mut s = [0u64; 10];
     let mut y = [0u64; 3];
     frame::opening::fresh(&mut s, 1, 1, &tags);
-    check::expect(frame::axes::y_product(&s, 1, 1, 0, &mut y));
+    check::expect(frame::axes::y_product(&s, 1, 1, 0, &mut y).is_ok());
     check::expect(number(frame::axes::row_sign(&y)) == 1);
 }
 
@@ -51,8 +51,8 @@ fn case6() {
     let tags = [0u64; 4];
     let mut s = [0u64; 10];
     frame::opening::fresh(&mut s, 1, 1, &tags);
-    check::expect(frame::gates::gate_s(&mut s, 1, 1, 0));
-    check::expect(of_y(&s, true) == 2);
+    check::expect(frame::gates::gate_s(&mut s, 1, 1, 0).is_ok());
+    check::expect(of_y(&s, Basis::X) == 2);
 }
 
 // After sdg it is Y with +1.
@@ -60,8 +60,8 @@ fn case7() {
     let tags = [0u64; 4];
     let mut s = [0u64; 10];
     frame::opening::fresh(&mut s, 1, 1, &tags);
-    check::expect(frame::gates::gate_sdg(&mut s, 1, 1, 0));
-    check::expect(of_y(&s, true) == 1);
+    check::expect(frame::gates::gate_sdg(&mut s, 1, 1, 0).is_ok());
+    check::expect(of_y(&s, Basis::X) == 1);
 }
 
 // After sx the z axis is Y with +1.
@@ -69,8 +69,8 @@ fn case8() {
     let tags = [0u64; 4];
     let mut s = [0u64; 10];
     frame::opening::fresh(&mut s, 1, 1, &tags);
-    check::expect(frame::gates::gate_sx(&mut s, 1, 1, 0));
-    check::expect(of_y(&s, false) == 1);
+    check::expect(frame::gates::gate_sx(&mut s, 1, 1, 0).is_ok());
+    check::expect(of_y(&s, Basis::Z) == 1);
 }
 
 fn main() {

@@ -1,7 +1,6 @@
 -- Laws of the axes read off a frame's words: the rows and labels of a qubit, rows as parts, and their signs. Assumes nothing.
 use mathlib.Core.Path.{◌≡◌, refl, sym, ap, ap₂, ◌∙◌, subst}
 use mathlib.Core.Logic.{inl, inr}
-use mathlib.Core.Bool.{Bool, true, false}
 use mathlib.Core.List.{List}
 use Prim.Native.Nat.{ℕ, zero, suc, ◌+◌, ◌-◌, ◌*◌, ◌%◌, ◌^◌, ◌≤◌, ◌<◌}
 use native.Mathlib.Nat.{zero-add, mul_comm, suc-mul, add-sub_cancel_left, not-suc-le-zero}
@@ -16,13 +15,14 @@ use Rattle.model.specs.Frame.{Rows, x_at, z_at, axis, kind_y, paulis}
 use Rattle.model.specs.Sketch.{Label, label_xor, labels}
 use Rattle.model.specs.Demands.{IsSign}
 use lib.IntN.{ℤ, pos, negsuc}
-use Rattle.pauli.specs.declared.rows.Signum.{Signum}
-use Rattle.pauli.specs.declared.rows.Signum.TheVariants.{Is, No}
+use Rattle.std.proofs.Common.{Option, Some, None, IfSome}
 use Rattle.pauli.specs.Rows.{value, value_at, x_of, z_of, of_row, answer}
 use Rattle.pauli.proofs.Words.{rest_part, rest_length, x_plane, z_plane}
 use Rattle.pauli.proofs.RowLaws.{value_part, value_xor}
 use Rattle.frame.specs.Places.{Sized, row_place, label_place, IsRow, IsLabel, row_of, Held}
-use Rattle.frame.specs.Axes.{stride, Reaches, words_of_row, either, axis_of, SignOrNone, Both, kind_of, tag_of}
+use Rattle.frame.specs.Axes.{stride, Reaches, words_of_row, either, axis_of, Both, kind_of, tag_of}
+use Rattle.frame.specs.declared.axes.Basis.{Basis}
+use Rattle.frame.specs.declared.axes.Basis.TheVariants as basis
 use Rattle.frame.specs.declared.axes.Kind.{Kind}
 use Rattle.frame.specs.declared.axes.Kind.TheVariants.{X, Y, Z, P}
 use Rattle.frame.specs.declared.axes.Tag.{Tag}
@@ -75,23 +75,23 @@ module _ (n l q : ℕ) (s : List ℕ) (r : Rows Pauli) (k : Rows Label) (h : q <
       ap (λ (t : List ℕ). get_or t (stride l q + i) 0) (rest_part s (2 * l + 1)) ∙ get_or-drop (2 * l + 1) s (stride l q + i) 0 ∙ ap (λ (j : ℕ). get_or s j 0) e)
       (held.rows.row (2 * q + 1) (omega arith)))
 
-  pub axis_words_is : (b : Bool) → IsRow l (words_of_row l q (either b s (behind (2 * l + 1) s))) 0 (axis_of b r q)
+  pub axis_words_is : (b : Basis) → IsRow l (words_of_row l q (either b s (behind (2 * l + 1) s))) 0 (axis_of b r q)
   unfolding either axis_of
-  axis_words_is true = x_words
-  axis_words_is false = z_words
+  axis_words_is basis.X = x_words
+  axis_words_is basis.Z = z_words
 
 -- the part that the code lends, `&s[at..at + w]`
 pub part_words : (l q : ℕ) (s : List ℕ) → take (stride l q + (2 * l + 1) - stride l q) (drop (stride l q) s) ≡ words_of_row l q s
 unfolding words_of_row
 part_words l q s = ap (λ (k : ℕ). take k (drop (stride l q) s)) (add-sub_cancel_left (stride l q) (2 * l + 1))
 
-pub first_words : (l q : ℕ) (b : Bool) (s t : List ℕ) → b ≡ true → take (stride l q + (2 * l + 1) - stride l q) (drop (stride l q) s) ≡ words_of_row l q (either b s t)
+pub first_words : (l q : ℕ) (b : Basis) (s t : List ℕ) → b ≡ basis.X → take (stride l q + (2 * l + 1) - stride l q) (drop (stride l q) s) ≡ words_of_row l q (either b s t)
 unfolding either
-first_words l q b s t e = part_words l q s ∙ sym (ap (λ (c : Bool). words_of_row l q (either c s t)) e)
+first_words l q b s t e = part_words l q s ∙ sym (ap (λ (c : Basis). words_of_row l q (either c s t)) e)
 
-pub second_words : (l q : ℕ) (b : Bool) (s t : List ℕ) → b ≡ false → take (stride l q + (2 * l + 1) - stride l q) (drop (stride l q) t) ≡ words_of_row l q (either b s t)
+pub second_words : (l q : ℕ) (b : Basis) (s t : List ℕ) → b ≡ basis.Z → take (stride l q + (2 * l + 1) - stride l q) (drop (stride l q) t) ≡ words_of_row l q (either b s t)
 unfolding either
-second_words l q b s t e = part_words l q t ∙ sym (ap (λ (c : Bool). words_of_row l q (either c s t)) e)
+second_words l q b s t e = part_words l q t ∙ sym (ap (λ (c : Basis). words_of_row l q (either c s t)) e)
 
 -- both families reach to every qubit of a frame
 pub x_Reaches : (n l q : ℕ) (s : List ℕ) → Sized (2 * n) l s → q < n → Reaches l q s
@@ -100,13 +100,13 @@ x_Reaches n l q s e h = omega (arith, pair_fits n l q h)
 pub z_Reaches : (n l q : ℕ) (s : List ℕ) → Sized (2 * n) l s → q < n → Reaches l q (behind (2 * l + 1) s)
 z_Reaches n l q s e h = omega (arith, pair_fits n l q h, rest_length s (2 * l + 1))
 
-pub either-Reaches : (l q : ℕ) (b : Bool) (s t : List ℕ) → Reaches l q s → Reaches l q t → Reaches l q (either b s t)
+pub either-Reaches : (l q : ℕ) (b : Basis) (s t : List ℕ) → Reaches l q s → Reaches l q t → Reaches l q (either b s t)
 unfolding either
-either-Reaches l q true s t h g = h
-either-Reaches l q false s t h g = g
+either-Reaches l q basis.X s t h g = h
+either-Reaches l q basis.Z s t h g = g
 
 -- what `row_of` lends of a frame
-module _ (n l q : ℕ) (s w : List ℕ) (b : Bool) (e : Sized (2 * n) l s) (h : q < n) (lent : w ≡ words_of_row l q (either b s (behind (2 * l + 1) s))) where
+module _ (n l q : ℕ) (s w : List ℕ) (b : Basis) (e : Sized (2 * n) l s) (h : q < n) (lent : w ≡ words_of_row l q (either b s (behind (2 * l + 1) s))) where
   pub lent_length : length w ≡ 2 * l + 1
   lent_length =
       ap length lent
@@ -248,6 +248,10 @@ pub read_label : (s : List ℕ) (a : ℕ) → IsLabel s a (tag_of (record { high
 unfolding tag_of
 read_label s a = record { high = refl; low = refl }
 
+pub tag-xor : (t u : Tag) → tag_of (record { high = bit_xor t.high u.high; low = bit_xor t.low u.low }) ≡ label_xor (tag_of t) (tag_of u)
+unfolding tag_of label_xor
+tag-xor t u = refl
+
 module _ (n l q : ℕ) (s : List ℕ) (r : Rows Pauli) (k : Rows Label) (h : q < n) (held : Held n l r k s) (kind : Kind) where
   pub label_x : (t : Tag) → kind ≡ X → IsLabel s (2 * n * (2 * l + 1) + 4 * q) (tag_of t) → tag_of t ≡ axis labels (kind_of kind) q k
   unfolding axis kind_of
@@ -260,45 +264,45 @@ module _ (n l q : ℕ) (s : List ℕ) (r : Rows Pauli) (k : Rows Label) (h : q <
       one_label s (2 * n * (2 * l + 1) + 4 * q + 2) (tag_of t) (z_at labels k q) i (z_label n l q s r k h held) ∙ sym f
       ∙ sym (ap (λ (j : Kind). axis labels (kind_of j) q k) e)
 
-  pub label_y : (t u : Tag) → kind ≡ Y → IsLabel s (2 * n * (2 * l + 1) + 4 * q) (tag_of t) → IsLabel s (2 * n * (2 * l + 1) + 4 * q + 2) (tag_of u)
-      → tag_of (record { high = bit_xor t.high u.high; low = bit_xor t.low u.low }) ≡ axis labels (kind_of kind) q k
-  unfolding axis kind_of tag_of labels label_xor
-  label_y t u e i j =
-      ap₂ label_xor
+  pub label_y : (t u v : Tag) → kind ≡ Y → IsLabel s (2 * n * (2 * l + 1) + 4 * q) (tag_of t) → IsLabel s (2 * n * (2 * l + 1) + 4 * q + 2) (tag_of u)
+      → tag_of v ≡ label_xor (tag_of t) (tag_of u) → tag_of v ≡ axis labels (kind_of kind) q k
+  unfolding axis kind_of labels
+  label_y t u v e i j d =
+      d ∙ ap₂ label_xor
       (one_label s (2 * n * (2 * l + 1) + 4 * q) (tag_of t) (x_at labels k q) i (x_label n l q s r k h held))
       (one_label s (2 * n * (2 * l + 1) + 4 * q + 2) (tag_of u) (z_at labels k q) j (z_label n l q s r k h held))
       ∙ sym (ap (λ (m : Kind). axis labels (kind_of m) q k) e)
 
 -- what is answered for a row's sign is a sign, or that there is none
-pub sign_or_none : (p : Pauli) → SignOrNone (answer (sign p))
+pub sign_or_none : (p : Pauli) → IfSome (answer (sign p)) IsSign
 unfolding sign sign_of answer
 sign_or_none p = go (quarter p)
   where
-    go : (q : ℕ) → SignOrNone (answer (sign_of q))
+    go : (q : ℕ) → IfSome (answer (sign_of q)) IsSign
     go zero = inl refl
     go (suc zero) = tt
     go (suc (suc zero)) = inr refl
     go (suc (suc (suc q))) = tt
 
 -- where a sign is told it is one, whatever the words are
-pub is_signed : (r : Signum) (g : ℤ) → SignOrNone r → r ≡ Is g → IsSign g
+pub is_signed : (r : Option ℤ) (g : ℤ) → IfSome r IsSign → r ≡ Some g → IsSign g
 is_signed r g h e = rw e at h
 
 -- the sign that is told of a row that has one is its sign
-pub is_sign : (a g : ℤ) → IsSign a → Is g ≡ answer a → g ≡ a
+pub is_sign : (a g : ℤ) → IsSign a → Some g ≡ answer a → g ≡ a
 unfolding answer
-is_sign a g (inl e) h = let k : Is g ≡ Is (pos 1) = h ∙ ap answer e in cc
-is_sign a g (inr e) h = let k : Is g ≡ Is (negsuc 0) = h ∙ ap answer e in cc
+is_sign a g (inl e) h = let k : Some g ≡ Some (pos 1) = h ∙ ap answer e in cc
+is_sign a g (inr e) h = let k : Some g ≡ Some (negsuc 0) = h ∙ ap answer e in cc
 
-pub some_sign : (a : ℤ) → IsSign a → No ≡ answer a → ⊥
+pub some_sign : (a : ℤ) → IsSign a → None ≡ answer a → ⊥
 unfolding answer
-some_sign a (inl e) h = let k : No ≡ Is (pos 1) = h ∙ ap answer e in let q : ◌≡◌ {A = ℕ} 0 1 = cc in omega (arith, q)
-some_sign a (inr e) h = let k : No ≡ Is (negsuc 0) = h ∙ ap answer e in let q : ◌≡◌ {A = ℕ} 0 1 = cc in omega (arith, q)
+some_sign a (inl e) h = let k : None ≡ Some (pos 1) = h ∙ ap answer e in let q : ◌≡◌ {A = ℕ} 0 1 = cc in omega (arith, q)
+some_sign a (inr e) h = let k : None ≡ Some (negsuc 0) = h ∙ ap answer e in let q : ◌≡◌ {A = ℕ} 0 1 = cc in omega (arith, q)
 
 -- ---- the axis of a kind, where the code found the kind
 
 module _ (kind : Kind) (q l : ℕ) (row : List ℕ) (f : Rows Pauli) where
-  pub axis_x : kind ≡ X → IsRow l row 0 (axis_of true f q) → IsRow l row 0 (axis paulis (kind_of kind) q f)
+  pub axis_x : kind ≡ X → IsRow l row 0 (axis_of basis.X f q) → IsRow l row 0 (axis paulis (kind_of kind) q f)
   unfolding axis_of either axis kind_of
   axis_x e i = subst (λ (k : Kind). IsRow l row 0 (axis paulis (kind_of k) q f)) (sym e) i
 
@@ -306,10 +310,10 @@ module _ (kind : Kind) (q l : ℕ) (row : List ℕ) (f : Rows Pauli) where
   unfolding kind_of
   axis_y e i = subst (λ (k : Kind). IsRow l row 0 (axis paulis (kind_of k) q f)) (sym e) i
 
-  pub axis_z : kind ≡ Z → IsRow l row 0 (axis_of false f q) → IsRow l row 0 (axis paulis (kind_of kind) q f)
+  pub axis_z : kind ≡ Z → IsRow l row 0 (axis_of basis.Z f q) → IsRow l row 0 (axis paulis (kind_of kind) q f)
   unfolding axis_of either axis kind_of
   axis_z e i = subst (λ (k : Kind). IsRow l row 0 (axis paulis (kind_of k) q f)) (sym e) i
 
-  pub axis_p : kind ≡ P → IsRow l row 0 (axis_of false f q) → IsRow l row 0 (axis paulis (kind_of kind) q f)
+  pub axis_p : kind ≡ P → IsRow l row 0 (axis_of basis.Z f q) → IsRow l row 0 (axis paulis (kind_of kind) q f)
   unfolding axis_of either axis kind_of
   axis_p e i = subst (λ (k : Kind). IsRow l row 0 (axis paulis (kind_of k) q f)) (sym e) i

@@ -202,13 +202,13 @@ Does-after n l F G s t u ok f g r k held = ((f r k held).0, (g _ _ (f r k held).
 no_true : false ≡ true → ⊥
 no_true e = subst (λ (b : Bool). cond b ⊥ (Unit {0})) e tt
 
-pub Does-no : (n l : ℕ) (F : (A : Type 0) → Ops A → Rows A → Rows A) (s t : List ℕ) (ok : Bool) → ok ≡ false → Does n l F s ok t
-    → (r : Rows Pauli) (k : Rows Label) → Held n l r k s → ⊥
-Does-no n l F s t ok e f r k held = no_true (sym e ∙ (f r k held).0)
+-- a step that fails on s says that s holds no frames
+pub Does-failed : (n l : ℕ) (F G : (A : Type 0) → Ops A → Rows A → Rows A) (s t u : List ℕ) (ok : Bool) → Does n l F s false t → Does n l G s ok u
+Does-failed n l F G s t u ok f r k held = absurd (no_true (f r k held).0)
 
-pub Moves-no : (n l : ℕ) (F : (A : Type 0) → Ops A → (ℕ → A) → ℕ → A) (s t : List ℕ) (ok : Bool) → ok ≡ false → Moves (2 * n) l F s ok t
-    → (r : Rows Pauli) (k : Rows Label) → Held n l r k s → ⊥
-Moves-no n l F s t ok e f r k held = no_true (sym e ∙ (f (row_of paulis r) (row_of labels k) held.rows).0)
+pub Moves-failed : (n l : ℕ) (F : (A : Type 0) → Ops A → (ℕ → A) → ℕ → A) (G : (A : Type 0) → Ops A → Rows A → Rows A) (s t u : List ℕ) (ok : Bool)
+    → Moves (2 * n) l F s false t → Does n l G s ok u
+Moves-failed n l F G s t u ok f r k held = absurd (no_true (f (row_of paulis r) (row_of labels k) held.rows).0)
 
 -- ---- each gate by its moves
 

@@ -1,13 +1,12 @@
 -- The row and the label of an axis as the code reads them off a frame's words. Assumes nothing.
-use Rattle.std.specs.Prelude.{◌≡◌, Bool, true, false, List, ℕ, ◌+◌, ◌*◌, ◌≤◌, ◌<◌, length, get_or, take, drop}
+use Rattle.std.specs.Prelude.{◌≡◌, List, ℕ, ◌+◌, ◌*◌, ◌≤◌, ◌<◌, length, get_or, take, drop}
 use Rattle.std.specs.Int.Bits.{bit_xor}
 use Rattle.model.specs.Pauli.{Pauli}
 use Rattle.model.specs.Frame as model
 use Rattle.model.specs.Frame.{Rows, x_at, z_at, paulis}
 use Rattle.model.specs.Sketch.{Label}
-use Rattle.model.specs.Demands.{IsSign}
-use Rattle.pauli.specs.declared.rows.Signum.{Signum}
-use Rattle.pauli.specs.declared.rows.Signum.TheVariants.{Is, No}
+use Rattle.frame.specs.declared.axes.Basis.{Basis}
+use Rattle.frame.specs.declared.axes.Basis.TheVariants as basis
 use Rattle.frame.specs.declared.axes.Kind.{Kind}
 use Rattle.frame.specs.declared.axes.Kind.TheVariants.{X, Y, Z, P}
 use Rattle.frame.specs.declared.axes.Tag.{Tag}
@@ -27,22 +26,14 @@ unfoldable pub words_of_row : (l q : ℕ) → List ℕ → List ℕ
 words_of_row l q s = take (2 * l + 1) (drop (stride l q) s)
 
 -- the first where the row is an X row, else the second
-unfoldable pub either : {A : Type 0} → Bool → A → A → A
-either true a b = a
-either false a b = b
+unfoldable pub either : {A : Type 0} → Basis → A → A → A
+either basis.X a b = a
+either basis.Z a b = b
 
 -- the row x[q] or z[q]
-unfoldable pub axis_of : Bool → Rows Pauli → ℕ → Pauli
+unfoldable pub axis_of : Basis → Rows Pauli → ℕ → Pauli
 unfolding either
 axis_of b r q = either b (x_at paulis r q) (z_at paulis r q)
-
--- "+1 or -1", or no sign: whatever the words are
-abbrev pub SignOrNone : Signum → Type 0
-SignOrNone (Is g) = IsSign g
-SignOrNone No = Unit {0}
-
-abbrev pub no_signum : Signum
-no_signum = No
 
 -- t is one word and behind it the n words of s from `at` on xored with those from `by` on
 pub record Both (s : List ℕ) (at by n : ℕ) (t : List ℕ) : Type 0 where

@@ -1,51 +1,60 @@
 // The axis of a rotation, read off a frame's words: the row of a qubit lent in place, its sign, the product of both rows for the axis
 // y, and the label of each kind of axis.
-ghost use Rattle.std.specs.Prelude.{◌≡◌, true, ℕ, ◌+◌, ◌*◌, ◌%◌, ◌≤◌, ◌<◌, length, get_or};
+ghost use Rattle.std.specs.Prelude.{◌≡◌, ℕ, ◌+◌, ◌*◌, ◌%◌, ◌≤◌, ◌<◌, length, get_or, None, IfSome, IsOk};
 ghost use Rattle.std.specs.Int.Bits.{bit_and};
 ghost use Rattle.model.specs.Pauli.{Pauli, count, sign};
 ghost use Rattle.model.specs.Frame.{Rows, axis, kind_y, paulis};
 ghost use Rattle.model.specs.Sketch.{Label, labels};
+ghost use Rattle.model.specs.Demands.{IsSign};
 ghost use Rattle.pauli.specs.Rows.{value_at, answer};
 ghost use Rattle.frame.specs.Places.{Sized, IsRow, IsLabel, Held};
-ghost use Rattle.frame.specs.Axes.{Reaches, words_of_row, either, axis_of, SignOrNone, no_signum, Both, kind_of, tag_of};
+ghost use Rattle.frame.specs.Axes.{Reaches, words_of_row, either, axis_of, Both, kind_of, tag_of};
 
-use pauli::rows::Signum;
+use crate::moves::phase_at;
+use pauli::corrupt::Corrupt;
 
 // ---- rows
 
+// Which of a qubit's two rows: x[q] or z[q].
+#[derive(Clone, Copy, Debug, PartialEq, Eq, Hash)]
+pub enum Basis {
+    X,
+    Z,
+}
+
 // The row of qubit q, phase first, as a part of one of two lent slices: xs is the frame from its first X row on, zs from its first Z
 // row on.
-pub fn row_of<'a>(xs: &'a [u64], zs: &'a [u64], of_x: bool, q: usize, l: usize) -> &'a [u64]
+pub fn row_of<'a>(xs: &'a [u64], zs: &'a [u64], basis: Basis, q: usize, l: usize) -> &'a [u64]
     requires { Reaches l q xs.now × Reaches l q zs.now }
-    ensures { result.now ≡ words_of_row l q (either of_x xs.now zs.now) }
+    ensures { result.now ≡ words_of_row l q (either basis xs.now zs.now) }
 {
     let w = 2 * l + 1;
     let at = q * 2 * w;
-    if of_x {
-        return &xs[at..at + w];
+    match basis {
+        Basis::X => &xs[at..at + w],
+        Basis::Z => &zs[at..at + w],
     }
-    &zs[at..at + w]
 }
 
 // The row x[q] or z[q] of a frame.
-pub fn axis_row(s: &[u64], n: usize, l: usize, of_x: bool, q: usize) -> &[u64]
+pub fn axis_row(s: &[u64], n: usize, l: usize, basis: Basis, q: usize) -> &[u64]
     requires { Sized (2 * n) l s.now × (q < n) }
     ensures long { length result.now ≡ 2 * l + 1 }
-    ensures row { (f : Rows Pauli) (k : Rows Label) → Held n l f k s.now → IsRow l result.now 0 (axis_of of_x f q) }
+    ensures row { (f : Rows Pauli) (k : Rows Label) → Held n l f k s.now → IsRow l result.now 0 (axis_of basis f q) }
 {
-    row_of(&s[..], &s[2 * l + 1..], of_x, q, l)
+    row_of(&s[..], &s[2 * l + 1..], basis, q, l)
 }
 
-// The sign of a row of 2 l + 1 words, phase first.
-pub fn row_sign(row: &[u64]) -> Signum
+// The sign of a row of 2 l + 1 words, phase first, if it has one.
+pub fn row_sign(row: &[u64]) -> Option<i8>
     requires { length row.now % 2 ≡ 1 }
     ensures sign { (l : ℕ) (p : Pauli) → length row.now ≡ 2 * l + 1 → IsRow l row.now 0 p → result ≡ answer (sign p) }
-    ensures one { SignOrNone result }
-    ensures bad { 4 ≤ get_or row.now 0 0 → result ≡ no_signum }
+    ensures one { IfSome result IsSign }
+    ensures bad { 4 ≤ get_or row.now 0 0 → result ≡ None }
 {
     let phase = row[0];
     if phase >= 4 {
-        return Signum::No;
+        return None;
     }
     pauli::rows::sign(&row[1..], phase)
 }
@@ -72,33 +81,26 @@ fn joined(s: &[u64], at: usize, by: usize, l: usize, out: &mut [u64]) -> u64
     (u64::count_ones(acc) % 2) as u64
 }
 
-// The axis y of qubit q, x[q] times z[q] with phase + 1, written to `out`, whatever it held. The answer is false where a phase met is
-// none (4 or more).
-pub fn y_product(s: &[u64], n: usize, l: usize, q: usize, out: &mut [u64]) -> bool
+// The axis y of qubit q, x[q] times z[q] with phase + 1, written to `out`, whatever it held. It fails where a phase met is none.
+pub fn y_product(s: &[u64], n: usize, l: usize, q: usize, out: &mut [u64]) -> Result<(), Corrupt>
     requires { Sized (2 * n) l s.now × (q < n) × (length out.old ≡ 2 * l + 1) }
     ensures long { length out.new ≡ 2 * l + 1 }
-    ensures row { (f : Rows Pauli) (k : Rows Label) → Held n l f k s.now → (result ≡ true) × IsRow l out.new 0 (axis paulis kind_y q f) }
+    ensures row { (f : Rows Pauli) (k : Rows Label) → Held n l f k s.now → IsOk result × IsRow l out.new 0 (axis paulis kind_y q f) }
 {
     let w = 2 * l + 1;
     let at = q * 2 * w;
     let by = at + w;
-    let p = s[at];
-    let t = s[by];
-    if p >= 4 {
-        return false;
-    }
-    if t >= 4 {
-        return false;
-    }
+    let p = phase_at(s, at)?;
+    let t = phase_at(s, by)?;
     let odd = joined(s, at + 1, by + 1, l, out);
     out[0] = (p + t + 2 * odd + 1) % 4;
-    true
+    Ok(())
 }
 
 // ---- labels
 
 // The kinds of axis.
-#[derive(Clone, Copy)]
+#[derive(Clone, Copy, Debug, PartialEq, Eq, Hash)]
 pub enum Kind {
     X,
     Y,
@@ -107,10 +109,25 @@ pub enum Kind {
 }
 
 // The two words of a label.
-#[derive(Clone, Copy)]
+#[derive(Clone, Copy, Debug, PartialEq, Eq, Hash)]
 pub struct Tag {
     pub high: u64,
     pub low: u64,
+}
+
+impl Tag {
+    ghost use Rattle.model.specs.Sketch.{label_xor};
+    ghost use Rattle.frame.specs.Axes.{tag_of};
+
+    // The label of a product: the exclusive or of both labels.
+    fn xor(self, other: Tag) -> Tag
+        ensures { tag_of result ≡ label_xor (tag_of self) (tag_of other) }
+    {
+        Tag {
+            high: self.high ^ other.high,
+            low: self.low ^ other.low,
+        }
+    }
 }
 
 // The label at `at`.
@@ -132,15 +149,7 @@ pub fn label(s: &[u64], n: usize, l: usize, kind: Kind, q: usize) -> Tag
     let at = 2 * n * (2 * l + 1) + 4 * q;
     match kind {
         Kind::X => tag_at(s, at),
-        Kind::Y => {
-            let x = tag_at(s, at);
-            let z = tag_at(s, at + 2);
-            Tag {
-                high: x.high ^ z.high,
-                low: x.low ^ z.low,
-            }
-        }
-        Kind::Z => tag_at(s, at + 2),
-        Kind::P => tag_at(s, at + 2),
+        Kind::Y => tag_at(s, at).xor(tag_at(s, at + 2)),
+        Kind::Z | Kind::P => tag_at(s, at + 2),
     }
 }

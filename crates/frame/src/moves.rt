@@ -1,23 +1,31 @@
 // The three operations of which every gate is made: a row turned by a power of i, a row multiplied by another, two rows exchanged;
 // each for phases, words and labels alike. A frame has m = 2n rows, x[0], z[0], x[1], z[1], .., of 2 l + 1 words each, phase first,
-// and behind them a label of two words for each. The answer is false where a phase met is none (4 or more): the words are no frame.
-ghost use Rattle.std.specs.Prelude.{◌≡◌, true, ◌+◌, ◌≤◌, ◌<◌, length};
+// and behind them a label of two words for each. Where a phase met is none (4 or more), the words are no frame: `Corrupt`.
+ghost use Rattle.std.specs.Prelude.{◌≡◌, true, ◌+◌, ◌≤◌, ◌<◌, ◌↔◌, length, is_ok, IsErr, IfOk, slice_index};
 ghost use Rattle.model.specs.Frame.{Ops};
 ghost use Rattle.pauli.specs.Rows.{Multiplied};
 ghost use Rattle.frame.specs.Places.{Sized, turn_row, times_row, swap_row, Moves};
 
+use pauli::corrupt::Corrupt;
+
+// The phase of the row at `at`, a power of i.
+pub fn phase_at(s: &[u64], at: usize) -> Result<u64, Corrupt>
+    requires { at < length s.now }
+    ensures phase { IfOk result (λ p. (p ≡ slice_index s.now at) × (p < 4)) }
+    ensures none { IsErr result ↔ (4 ≤ slice_index s.now at) }
+{
+    let phase = s[at];
+    if phase < 4 { Ok(phase) } else { Err(Corrupt) }
+}
+
 // The row g, times i^by.
-pub fn turn(s: &mut [u64], m: usize, l: usize, g: usize, by: u64) -> bool
+pub fn turn(s: &mut [u64], m: usize, l: usize, g: usize, by: u64) -> Result<(), Corrupt>
     requires { Sized m l s.old × (g < m) × (by < 4) }
-    ensures { Moves m l (λ (A : Type 0) (o : Ops A). turn_row o by g) s.old result s.new }
+    ensures { Moves m l (λ (A : Type 0) (o : Ops A). turn_row o by g) s.old (is_ok result) s.new }
 {
     let at = g * (2 * l + 1);
-    let p = s[at];
-    if p >= 4 {
-        return false;
-    }
-    s[at] = (p + by) % 4;
-    true
+    s[at] = (phase_at(s, at)? + by) % 4;
+    Ok(())
 }
 
 // The label at `at` becomes its exclusive or with the one at `by`.
@@ -30,26 +38,20 @@ fn mix(s: &mut [u64], at: usize, by: usize)
 }
 
 // The row g becomes its product with the row k, times i^by.
-pub fn times(s: &mut [u64], m: usize, l: usize, g: usize, k: usize, by: u64) -> bool
+pub fn times(s: &mut [u64], m: usize, l: usize, g: usize, k: usize, by: u64) -> Result<(), Corrupt>
     requires { Sized m l s.old × (g < m) × (k < m) × (g ≡ k → ⊥) × (by < 4) }
-    ensures { Moves m l (λ (A : Type 0) (o : Ops A). times_row o by g k) s.old result s.new }
+    ensures { Moves m l (λ (A : Type 0) (o : Ops A). times_row o by g k) s.old (is_ok result) s.new }
 {
     let w = 2 * l + 1;
     let at = g * w;
     let of = k * w;
-    let p = s[at];
-    let q = s[of];
-    if p >= 4 {
-        return false;
-    }
-    if q >= 4 {
-        return false;
-    }
+    let p = phase_at(s, at)?;
+    let q = phase_at(s, of)?;
     let odd = pauli::rows::multiply(s, at + 1, of + 1, l);
     s[at] = (p + q + 2 * odd + by) % 4;
     let tags = m * w;
     mix(s, tags + 2 * g, tags + 2 * k);
-    true
+    Ok(())
 }
 
 // The rows g and k change places.

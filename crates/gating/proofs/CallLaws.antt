@@ -1,6 +1,6 @@
 -- How a call on the frames ends, a gate or a turn: its number, and its promise kept at each return. Assumes nothing.
 use mathlib.Core.Path.{◌≡◌, refl, sym, ap, ◌∙◌, subst}
-use mathlib.Core.Bool.{Bool, true, false, cond}
+use mathlib.Core.Bool.{Bool, true, false, cond, true≢false}
 use mathlib.Core.List.{List, [], ◌∷◌}
 use Prim.Native.Nat.{ℕ, zero, suc, ◌+◌, ◌≤◌}
 use native.Mathlib.Omega.{arith}
@@ -12,7 +12,6 @@ use Rattle.model.specs.Events.{State}
 use Rattle.model.specs.Calls.{Call, call_gate, call_turn, gate_qubits, answer, answer_to, accepted, refused, reply_of, reframed, effect}
 use Rattle.frame.specs.Places.{applied, Does}
 use Rattle.frame.specs.Places as frames
-use Rattle.frame.proofs.GateLaws.{Does-no}
 use Rattle.store.specs.Stores.{part, frame_size, Stored, StoredTo}
 use Rattle.store.specs.Promises.{number, turn_known, qubit_number, Meets}
 use Rattle.store.specs.Checks.{Framing}
@@ -90,7 +89,7 @@ module _ (c : Call) (n l : ℕ) (s : List ℕ) (f : Framing n l s) (N : ℕ) (nu
     -- a no cannot come from words that hold a state
     pub framed_nine : ok ≡ false → Meets c s (refused 9) (splice 14 k s ys)
     framed_nine e = nine_Meets c s f.enough (splice 14 k s ys) (splice-length 14 k s there ys long) (λ m h.
-        Does-no n l F (part 14 k s) ys ok e does m.frame m.sketch (begin m h.stored))
+        true≢false (sym (does m.frame m.sketch (begin m h.stored)).0 ∙ e))
 
 -- ---- a gate's and a turn's own
 

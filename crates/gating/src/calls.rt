@@ -42,10 +42,10 @@ pub fn gate(s: &mut [u64], g: Gate) -> Answer
                 return Answer::Refused(k);
             }
             let end = 14 + (2 * n * (2 * l + 1) + 2 * (2 * n));
-            if crate::gates::act(&mut s[14..end], n, l, g) {
-                return Answer::Done;
+            match crate::gates::act(&mut s[14..end], n, l, g) {
+                Ok(()) => Answer::Done,
+                Err(_) => Answer::Refused(9),
             }
-            Answer::Refused(9)
         }
     }
 }
@@ -89,10 +89,10 @@ pub fn turn(s: &mut [u64], kind: Kind, k: u64, q: usize) -> Answer
                 return Answer::Refused(no);
             }
             let end = 14 + (2 * n * (2 * l + 1) + 2 * (2 * n));
-            if crate::gates::turned(&mut s[14..end], n, l, kind, k, q) {
-                return Answer::Done;
+            match crate::gates::turned(&mut s[14..end], n, l, kind, k, q) {
+                Ok(()) => Answer::Done,
+                Err(_) => Answer::Refused(9),
             }
-            Answer::Refused(9)
         }
     }
 }

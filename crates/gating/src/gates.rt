@@ -1,5 +1,5 @@
 // A gate as one value with its qubits, and which of the frames' functions it is.
-ghost use Rattle.std.specs.Prelude.{◌*◌, ◌<◌};
+ghost use Rattle.std.specs.Prelude.{◌*◌, ◌<◌, is_ok};
 ghost use Rattle.model.specs.Frame.{Ops, turn};
 ghost use Rattle.model.specs.Demands.{Fits};
 ghost use Rattle.frame.specs.Places.{Sized, applied, Does};
@@ -7,6 +7,7 @@ ghost use Rattle.frame.specs.Axes.{kind_of};
 ghost use Rattle.gating.specs.Gates.{gate_of};
 
 use frame::axes::Kind;
+use pauli::corrupt::Corrupt;
 
 // 01's gates. Of a gate on two qubits the first is the control.
 #[derive(Clone, Copy)]
@@ -24,15 +25,15 @@ pub enum Gate {
     Cy(usize, usize),
 }
 
-// The gate is done to both frames, whose words f are. The answer is false where a phase met is none.
-pub fn act(f: &mut [u64], n: usize, l: usize, g: Gate) -> bool
+// The gate is done to both frames, whose words f are. It fails where a phase met is none.
+pub fn act(f: &mut [u64], n: usize, l: usize, g: Gate) -> Result<(), Corrupt>
     requires { Sized (2 * n) l f.old × Fits n (gate_of g) }
-    ensures { Does n l (applied (gate_of g)) f.old result f.new }
+    ensures { Does n l (applied (gate_of g)) f.old (is_ok result) f.new }
 {
     match g {
         Gate::H(q) => {
             frame::gates::gate_h(f, n, l, q);
-            true
+            Ok(())
         }
         Gate::X(q) => frame::gates::gate_x(f, n, l, q),
         Gate::Y(q) => frame::gates::gate_y(f, n, l, q),
@@ -44,16 +45,23 @@ pub fn act(f: &mut [u64], n: usize, l: usize, g: Gate) -> bool
         Gate::Cz(c, t) => frame::gates::gate_cz(f, n, l, c, t),
         Gate::Swap(a, b) => {
             frame::gates::gate_swap(f, n, l, a, b);
-            true
+            Ok(())
         }
         Gate::Cy(c, t) => frame::gates::gate_cy(f, n, l, c, t),
     }
 }
 
 // The turn by k of a kind is done to both frames.
-pub fn turned(f: &mut [u64], n: usize, l: usize, kind: Kind, k: u64, q: usize) -> bool
+pub fn turned(
+    f: &mut [u64],
+    n: usize,
+    l: usize,
+    kind: Kind,
+    k: u64,
+    q: usize,
+) -> Result<(), Corrupt>
     requires { Sized (2 * n) l f.old × (q < n) }
-    ensures { Does n l (λ (A : Type 0) (o : Ops A). turn o (kind_of kind) k q) f.old result f.new }
+    ensures { Does n l (λ (A : Type 0) (o : Ops A). turn o (kind_of kind) k q) f.old (is_ok result) f.new }
 {
     match kind {
         Kind::X => frame::gates::turn_x(f, n, l, k, q),

@@ -1,6 +1,6 @@
 -- Laws of a mark by its cases: its qubits, and its events recorded one after the other. Assumes nothing.
 use mathlib.Core.Path.{◌≡◌, refl, sym, ap, subst}
-use mathlib.Core.Bool.{Bool, true, false}
+use mathlib.Core.Bool.{Bool, false}
 use mathlib.Core.List.{List, [], ◌∷◌}
 use Prim.Native.Nat.{ℕ, ◌<◌}
 use native.Mathlib.Omega.{arith}
@@ -10,6 +10,7 @@ use Rattle.model.specs.Frame.{Rows, x_at, z_at, paulis}
 use Rattle.model.specs.Events.{State, event_at, blocker_on}
 use Rattle.model.proofs.Good.{Good, AllOk, origin, blocker_ok}
 use Rattle.frame.specs.Axes.{axis_of, either}
+use Rattle.frame.specs.declared.axes.Basis.TheVariants as basis
 use Rattle.frame.specs.declared.axes.Kind.{Kind}
 use Rattle.store.specs.Promises.{qubit_number}
 use Rattle.store.proofs.SizeLaws.{Three, single_says, triple_says}
@@ -59,23 +60,23 @@ module _ (q : ℕ) where
   unfolding events_of
   reset_long m = refl
 
-  first_same : (m v : State) → v.frame ≡ m.frame → blocker_at false q v ≡ event_at (events_of (Reset q) m) 0 ∷ []
+  first_same : (m v : State) → v.frame ≡ m.frame → blocker_at basis.Z q v ≡ event_at (events_of (Reset q) m) 0 ∷ []
   unfolding events_of blocker_at axis_of either event_at
   first_same m v e = ap (λ (r : Rows Pauli). blocker_on (z_at paulis r q) ∷ []) e
 
-  second_same : (m v : State) → v.frame ≡ m.frame → blocker_at true q v ≡ event_at (events_of (Reset q) m) 1 ∷ []
+  second_same : (m v : State) → v.frame ≡ m.frame → blocker_at basis.X q v ≡ event_at (events_of (Reset q) m) 1 ∷ []
   unfolding events_of blocker_at axis_of either event_at
   second_same m v e = ap (λ (r : Rows Pauli). blocker_on (x_at paulis r q) ∷ []) e
 
-  module _ (s u : List ℕ) (r : Bool) (first : Records (blocker_at false q) s r u) where
+  module _ (s u : List ℕ) (r : Bool) (first : Records (blocker_at basis.Z q) s r u) where
     pub reset_fail : r ≡ false → Records (events_of (Reset q)) s false u
     reset_fail =
-        sofar_fail (events_of (Reset q)) (blocker_at false q) 0 s s u r reset_ok (λ m. omega (arith, reset_long m)) first_same (Sofar-none (events_of (Reset q)) s) first
+        sofar_fail (events_of (Reset q)) (blocker_at basis.Z q) 0 s s u r reset_ok (λ m. omega (arith, reset_long m)) first_same (Sofar-none (events_of (Reset q)) s) first
 
-    pub reset_both : (v : List ℕ) (b : Bool) → Records (blocker_at true q) u b v → Records (events_of (Reset q)) s b v
+    pub reset_both : (v : List ℕ) (b : Bool) → Records (blocker_at basis.X q) u b v → Records (events_of (Reset q)) s b v
     reset_both v b second =
-        sofar_last (events_of (Reset q)) (blocker_at true q) 1 s u v b reset_ok (λ m. omega (arith, reset_long m)) second_same
-        (Sofar-more (events_of (Reset q)) (blocker_at false q) 0 s s u r reset_ok (λ m. omega (arith, reset_long m)) first_same (Sofar-none (events_of (Reset q)) s) first) second
+        sofar_last (events_of (Reset q)) (blocker_at basis.X q) 1 s u v b reset_ok (λ m. omega (arith, reset_long m)) second_same
+        (Sofar-more (events_of (Reset q)) (blocker_at basis.Z q) 0 s s u r reset_ok (λ m. omega (arith, reset_long m)) first_same (Sofar-none (events_of (Reset q)) s) first) second
         (λ m. sym (reset_long m))
 
 -- ---- the events of a mark
@@ -88,17 +89,17 @@ module _ (mark : Mark) (s t : List ℕ) (r : Bool) where
   unfolding events_of rotation_about
   rotation_of_lem kind q tag e x = of (Rotation kind q tag) e x
 
-  pub measure_of : (q : ℕ) → mark ≡ Measure q → Records (blocker_at false q) s r t → Records (events_of mark) s r t
+  pub measure_of : (q : ℕ) → mark ≡ Measure q → Records (blocker_at basis.Z q) s r t → Records (events_of mark) s r t
   unfolding events_of blocker_at axis_of either
   measure_of q e x = of (Measure q) e x
 
   pub reset_of : (q : ℕ) → mark ≡ Reset q → Records (events_of (Reset q)) s r t → Records (events_of mark) s r t
   reset_of q e x = of (Reset q) e x
 
-  pub ccx_of : (a b k : ℕ) → mark ≡ Ccx a b k → Records (products true a b k) s r t → Records (events_of mark) s r t
+  pub ccx_of : (a b k : ℕ) → mark ≡ Ccx a b k → Records (products basis.X a b k) s r t → Records (events_of mark) s r t
   unfolding events_of products axis_of either
   ccx_of a b k e x = of (Ccx a b k) e x
 
-  pub ccz_of : (a b k : ℕ) → mark ≡ Ccz a b k → Records (products false a b k) s r t → Records (events_of mark) s r t
+  pub ccz_of : (a b k : ℕ) → mark ≡ Ccz a b k → Records (products basis.Z a b k) s r t → Records (events_of mark) s r t
   unfolding events_of products axis_of either
   ccz_of a b k e x = of (Ccz a b k) e x

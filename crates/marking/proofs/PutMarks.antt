@@ -17,8 +17,9 @@ use Rattle.model.specs.Demands.{IsSign, Small}
 use Rattle.model.proofs.Good.{Good, EventOk, AllOk, origin, axis_ok, seven_ok}
 use Rattle.model.proofs.Within.{small_times}
 use Rattle.pauli.specs.Rows.{answer}
-use Rattle.pauli.specs.declared.rows.Signum.{Signum}
-use Rattle.pauli.specs.declared.rows.Signum.TheVariants.{Is, No}
+use Rattle.std.proofs.Common.{Option, Some, None}
+use Rattle.frame.specs.declared.axes.Basis.{Basis}
+use Rattle.frame.specs.declared.axes.Basis.TheVariants as basis
 use Rattle.frame.specs.Places as frames
 use Rattle.frame.specs.Places.{IsRow}
 use Rattle.frame.specs.Axes.{axis_of, either, kind_of, tag_of}
@@ -115,10 +116,10 @@ module _ (z : Sizes) (s ys row : List ℕ) (body : Body) (r : Kept) (f : Fit z s
 
 -- ---- one event of a state
 
-Small-axis : (m : State) → Good m → (of_x : Bool) (q : ℕ) → Small m.given.n (axis_of of_x m.frame q)
+Small-axis : (m : State) → Good m → (which : Basis) (q : ℕ) → Small m.given.n (axis_of which m.frame q)
 unfolding axis_of either
-Small-axis m g true q = g.within.all_x q
-Small-axis m g false q = g.within.all_z q
+Small-axis m g basis.X q = g.within.all_x q
+Small-axis m g basis.Z q = g.within.all_z q
 
 Small-seven : (n : ℕ) (a b t : Pauli) (i : ℕ) → i < 7 → Small n a → Small n b → Small n t → Small n (get_or (seven a b t) i paulis.unit)
 unfolding seven
@@ -139,27 +140,27 @@ module _ (z : Sizes) (s row : List ℕ) (f : Fit z s) (long : length row ≡ 2 *
       puts m (blocker_on (p m)) h g (omega arith) (blocker_Recorded m.given.n z.l row (p m) long (sets m h) (small m g))
 
   -- a row of the frame
-  pub row-Records : (t : List ℕ) (r of_x : Bool) (q : ℕ)
-      → ((v : Rows Pauli) (k : Rows Label) → frames.Held z.n z.l v k (take (z.at - 14) (drop 14 s)) → IsRow z.l row 0 (axis_of of_x v q))
-      → Puts row Blocker s r t → Records (blocker_at of_x q) s r t
+  pub row-Records : (t : List ℕ) (r : Bool) (which : Basis) (q : ℕ)
+      → ((v : Rows Pauli) (k : Rows Label) → frames.Held z.n z.l v k (take (z.at - 14) (drop 14 s)) → IsRow z.l row 0 (axis_of which v q))
+      → Puts row Blocker s r t → Records (blocker_at which q) s r t
   unfolding blocker_at
-  row-Records t r of_x q row_is puts =
-      block_Records t r (λ m. axis_of of_x m.frame q) (λ m h. row_Sets z.l row (axis_of of_x m.frame q) (row_is m.frame m.sketch (frames-Held z s f m h)))
-      (λ m g. Small-axis m g of_x q) puts
+  row-Records t r which q row_is puts =
+      block_Records t r (λ m. axis_of which m.frame q) (λ m h. row_Sets z.l row (axis_of which m.frame q) (row_is m.frame m.sketch (frames-Held z s f m h)))
+      (λ m g. Small-axis m g which q) puts
 
   -- one of the seven products
-  pub product_Records : (v : List ℕ) (r of_x : Bool) (a b t i : ℕ) → i < 7
+  pub product_Records : (v : List ℕ) (r : Bool) (which : Basis) (a b t i : ℕ) → i < 7
       → ((w : Rows Pauli) (k : Rows Label) → frames.Held z.n z.l w k (take (z.at - 14) (drop 14 s))
-      → Sets z.l row (get_or (seven (z_at paulis w a) (z_at paulis w b) (axis_of of_x w t)) i paulis.unit))
-      → Puts row Blocker s r v → Records (product_at of_x a b t i) s r v
+      → Sets z.l row (get_or (seven (z_at paulis w a) (z_at paulis w b) (axis_of which w t)) i paulis.unit))
+      → Puts row Blocker s r v → Records (product_at which a b t i) s r v
   unfolding product_at
-  product_Records v r of_x a b t i hi sets puts =
-      block_Records v r (λ m. get_or (seven (z_at paulis m.frame a) (z_at paulis m.frame b) (axis_of of_x m.frame t)) i paulis.unit)
+  product_Records v r which a b t i hi sets puts =
+      block_Records v r (λ m. get_or (seven (z_at paulis m.frame a) (z_at paulis m.frame b) (axis_of which m.frame t)) i paulis.unit)
       (λ m h. sets m.frame m.sketch (frames-Held z s f m h))
-      (λ m g. Small-seven m.given.n _ _ _ i hi (g.within.all_z a) (g.within.all_z b) (Small-axis m g of_x t)) puts
+      (λ m g. Small-seven m.given.n _ _ _ i hi (g.within.all_z a) (g.within.all_z b) (Small-axis m g which t)) puts
 
   -- a rotation, by what the code was told of its axis, sign and label
-  module _ (kind : Kind) (q tag : ℕ) (b : Bool) (sgn : Signum) (inside : q < z.n)
+  module _ (kind : Kind) (q tag : ℕ) (b : Bool) (sgn : Option ℤ) (inside : q < z.n)
       (row_is : (v : Rows Pauli) (k : Rows Label) → frames.Held z.n z.l v k (take (z.at - 14) (drop 14 s))
       → (b ≡ true) × IsRow z.l row 0 (axis paulis (kind_of kind) q v))
       (sign_is : (l : ℕ) (p : Pauli) → length row ≡ 2 * l + 1 → IsRow l row 0 p → sgn ≡ answer (sign p)) where
@@ -178,7 +179,7 @@ module _ (z : Sizes) (s row : List ℕ) (f : Fit z s) (long : length row ≡ 2 *
 
     pub rotate_Records : (t : List ℕ) (r : Bool) (g h : ℤ) (u : Tag)
         → ((v : Rows Pauli) (k : Rows Label) → frames.Held z.n z.l v k (take (z.at - 14) (drop 14 s)) → tag_of u ≡ axis labels (kind_of kind) q k)
-        → sgn ≡ Is g → (IsSign g → h ≡ g) → Puts row (Rotation tag h u.high u.low) s r t → Records (rotation_about kind q tag) s r t
+        → sgn ≡ Some g → (IsSign g → h ≡ g) → Puts row (Rotation tag h u.high u.low) s r t → Records (rotation_about kind q tag) s r t
     unfolding rotation_about record_all
     rotate_Records t r g h u Label-is e same puts m held good room =
         let ok : IsSign (sign (axis paulis (kind_of kind) q m.frame)) = sign_ok m held good in
@@ -187,7 +188,7 @@ module _ (z : Sizes) (s row : List ℕ) (f : Fit z s) (long : length row ≡ 2 *
         (rotation_Recorded m.given.n z.l q tag row kind m (origin m) h u long (told_row m held).1 (same (subst IsSign (sym eg) ok) ∙ eg)
         (Label-is m.frame m.sketch (frames-Held z s f m held)) (rotation_ok m held good))
 
-    pub unsigned_Records : (t : List ℕ) → sgn ≡ No → Records (rotation_about kind q tag) s false t
+    pub unsigned_Records : (t : List ℕ) → sgn ≡ None → Records (rotation_about kind q tag) s false t
     unsigned_Records t e m held good room = absurd (some_sign (sign (axis paulis (kind_of kind) q m.frame)) (sign_ok m held good) (sym e ∙ told_sign m held))
 
   pub no_axis-Records : (kind : Kind) (q tag : ℕ) (b : Bool) (t : List ℕ) → b ≡ false
@@ -252,30 +253,30 @@ at_seven a b t (suc (suc (suc (suc (suc zero))))) h = refl
 at_seven a b t (suc (suc (suc (suc (suc (suc zero)))))) h = refl
 at_seven a b t (suc (suc (suc (suc (suc (suc (suc i))))))) h = absurd (omega arith)
 
-module _ (of_x : Bool) (a b t : ℕ) where
-  products_ok : (m : State) → Good m → AllOk (origin m) m.given.n (products of_x a b t m)
+module _ (which : Basis) (a b t : ℕ) where
+  products_ok : (m : State) → Good m → AllOk (origin m) m.given.n (products which a b t m)
   unfolding products
-  products_ok m g = seven_ok (origin m) m.given.n _ _ _ (g.within.all_z a) (g.within.all_z b) (Small-axis m g of_x t)
+  products_ok m g = seven_ok (origin m) m.given.n _ _ _ (g.within.all_z a) (g.within.all_z b) (Small-axis m g which t)
 
-  products_long : (m : State) → length (products of_x a b t m) ≡ 7
+  products_long : (m : State) → length (products which a b t m) ≡ 7
   unfolding products seven
   products_long m = refl
 
-  products_same : (i : ℕ) → i < 7 → (m v : State) → v.frame ≡ m.frame → product_at of_x a b t i v ≡ event_at (products of_x a b t m) i ∷ []
+  products_same : (i : ℕ) → i < 7 → (m v : State) → v.frame ≡ m.frame → product_at which a b t i v ≡ event_at (products which a b t m) i ∷ []
   unfolding products product_at
   products_same i h m v e =
-      ap (λ (r : Rows Pauli). blocker_on (get_or (seven (z_at paulis r a) (z_at paulis r b) (axis_of of_x r t)) i paulis.unit) ∷ []) e
-      ∙ ap (λ (x : Event). x ∷ []) (at_seven (z_at paulis m.frame a) (z_at paulis m.frame b) (axis_of of_x m.frame t) i h)
+      ap (λ (r : Rows Pauli). blocker_on (get_or (seven (z_at paulis r a) (z_at paulis r b) (axis_of which r t)) i paulis.unit) ∷ []) e
+      ∙ ap (λ (x : Event). x ∷ []) (at_seven (z_at paulis m.frame a) (z_at paulis m.frame b) (axis_of which m.frame t) i h)
 
-  module _ (i : ℕ) (s u v : List ℕ) (r : Bool) (h : i < 7) (past : Sofar (products of_x a b t) i s u) (next : Records (product_at of_x a b t i) u r v) where
-    there : (m : State) → i < length (products of_x a b t m)
+  module _ (i : ℕ) (s u v : List ℕ) (r : Bool) (h : i < 7) (past : Sofar (products which a b t) i s u) (next : Records (product_at which a b t i) u r v) where
+    there : (m : State) → i < length (products which a b t m)
     there m = omega (arith, products_long m)
 
-    pub product_next : Sofar (products of_x a b t) (i + 1) s v
-    product_next = Sofar-more (products of_x a b t) (product_at of_x a b t i) i s u v r products_ok there (products_same i h) past next
+    pub product_next : Sofar (products which a b t) (i + 1) s v
+    product_next = Sofar-more (products which a b t) (product_at which a b t i) i s u v r products_ok there (products_same i h) past next
 
-    pub product_fail : r ≡ false → Records (products of_x a b t) s false v
-    product_fail = sofar_fail (products of_x a b t) (product_at of_x a b t i) i s u v r products_ok there (products_same i h) past next
+    pub product_fail : r ≡ false → Records (products which a b t) s false v
+    product_fail = sofar_fail (products which a b t) (product_at which a b t i) i s u v r products_ok there (products_same i h) past next
 
-  pub product_all : (i : ℕ) (s u : List ℕ) → i ≡ 7 → Sofar (products of_x a b t) i s u → Records (products of_x a b t) s true u
-  product_all i s u e = Sofar-all (products of_x a b t) i s u (λ m. e ∙ sym (products_long m))
+  pub product_all : (i : ℕ) (s u : List ℕ) → i ≡ 7 → Sofar (products which a b t) i s u → Records (products which a b t) s true u
+  product_all i s u e = Sofar-all (products which a b t) i s u (λ m. e ∙ sym (products_long m))

@@ -5,6 +5,7 @@ use Rattle.model.specs.Events.{Event, State, record1, record_all, blocker_on}
 use Rattle.model.specs.Calls.{Call, call_record, call_measure, call_reset, call_ccx, call_ccz, rotation_of, seven}
 use Rattle.model.proofs.Good.{Good}
 use Rattle.frame.specs.Axes.{axis_of, kind_of}
+use Rattle.frame.specs.declared.axes.Basis.{Basis}
 use Rattle.frame.specs.declared.axes.Kind.{Kind}
 use Rattle.history.specs.Recordings.{Recorded}
 use Rattle.history.specs.declared.events.Body.{Body}
@@ -43,15 +44,15 @@ unfoldable pub rotation_about : Kind → (q tag : ℕ) → State → List Event
 rotation_about kind q tag m = rotation_of (kind_of kind) q tag m ∷ []
 
 -- a blocker on the row x[q] or z[q]
-unfoldable pub blocker_at : Bool → (q : ℕ) → State → List Event
-blocker_at of_x q m = blocker_on (axis_of of_x m.frame q) ∷ []
+unfoldable pub blocker_at : Basis → (q : ℕ) → State → List Event
+blocker_at basis q m = blocker_on (axis_of basis m.frame q) ∷ []
 
 -- "the seven products of z[a], z[b] and the target row": one of them, and all
-unfoldable pub product_at : Bool → (a b t i : ℕ) → State → List Event
-product_at of_x a b t i m = blocker_on (get_or (seven (z_at paulis m.frame a) (z_at paulis m.frame b) (axis_of of_x m.frame t)) i paulis.unit) ∷ []
+unfoldable pub product_at : Basis → (a b t i : ℕ) → State → List Event
+product_at basis a b t i m = blocker_on (get_or (seven (z_at paulis m.frame a) (z_at paulis m.frame b) (axis_of basis m.frame t)) i paulis.unit) ∷ []
 
-unfoldable pub products : Bool → (a b t : ℕ) → State → List Event
-products of_x a b t m = map blocker_on (seven (z_at paulis m.frame a) (z_at paulis m.frame b) (axis_of of_x m.frame t))
+unfoldable pub products : Basis → (a b t : ℕ) → State → List Event
+products basis a b t m = map blocker_on (seven (z_at paulis m.frame a) (z_at paulis m.frame b) (axis_of basis m.frame t))
 
 -- a mark: "measure records z[q]; reset z[q], then x[q]; ccx and ccz record the seven products [..] (x for ccx, z for ccz)"
 unfoldable pub events_of : Mark → State → List Event

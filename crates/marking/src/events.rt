@@ -7,11 +7,10 @@ ghost use Rattle.store.specs.Checks.{Fit, sizes};
 ghost use Rattle.marking.specs.Marks.{qubits_of, events_of, rotation_about, blocker_at, product_at, products, Puts, Records};
 
 use super::rows::{axis_into, product_into, row_into};
-use frame::axes::{Kind, label, row_sign};
+use frame::axes::{Basis, Kind, label, row_sign};
 use history::events::Body;
 use history::forms::Form;
 use history::record::Kept;
-use pauli::rows::Signum;
 use store::header::Sizes;
 
 #[derive(Clone, Copy)]
@@ -55,12 +54,12 @@ fn rotate(s: &mut [u64], z: Sizes, kind: Kind, q: usize, tag: u32, out: &mut [u6
     let end = z.at;
     let form = z.form;
     let tagged = label(&s[14..end], z.n, z.l, kind, q);
-    if !axis_into(&s[14..end], z.n, z.l, kind, q, out) {
+    if axis_into(&s[14..end], z.n, z.l, kind, q, out).is_err() {
         return false;
     }
     match row_sign(out) {
-        Signum::No => false,
-        Signum::Is(g) => put(
+        None => false,
+        Some(g) => put(
             s,
             z.n,
             z.l,
@@ -81,14 +80,14 @@ fn rotate(s: &mut [u64], z: Sizes, kind: Kind, q: usize, tag: u32, out: &mut [u6
 }
 
 // Records the row x[q] or z[q] as a blocker.
-fn block(s: &mut [u64], z: Sizes, of_x: bool, q: usize, out: &mut [u64]) -> bool
+fn block(s: &mut [u64], z: Sizes, basis: Basis, q: usize, out: &mut [u64]) -> bool
     requires { Fit z s.old × (length out.old ≡ 2 * z.l + 1) × (q < z.n) }
     ensures fit { Fit z s.new }
-    ensures done { Records (blocker_at of_x q) s.old result s.new }
+    ensures done { Records (blocker_at basis q) s.old result s.new }
 {
     let end = z.at;
     let form = z.form;
-    row_into(&s[14..end], z.n, z.l, of_x, q, out);
+    row_into(&s[14..end], z.n, z.l, basis, q, out);
     put(
         s,
         z.n,
@@ -107,7 +106,7 @@ fn block(s: &mut [u64], z: Sizes, of_x: bool, q: usize, out: &mut [u64]) -> bool
 fn block_product(
     s: &mut [u64],
     z: Sizes,
-    of_x: bool,
+    basis: Basis,
     a: usize,
     b: usize,
     t: usize,
@@ -116,11 +115,11 @@ fn block_product(
 ) -> bool
     requires { Fit z s.old × (length out.old ≡ 2 * z.l + 1) × (a < z.n) × (b < z.n) × (t < z.n) × (i < 7) }
     ensures fit { Fit z s.new }
-    ensures done { Records (product_at of_x a b t i) s.old result s.new }
+    ensures done { Records (product_at basis a b t i) s.old result s.new }
 {
     let end = z.at;
     let form = z.form;
-    product_into(&s[14..end], z.n, z.l, of_x, a, b, t, i, out);
+    product_into(&s[14..end], z.n, z.l, basis, a, b, t, i, out);
     put(
         s,
         z.n,
@@ -139,7 +138,7 @@ fn block_product(
 fn block_products(
     s: &mut [u64],
     z: Sizes,
-    of_x: bool,
+    basis: Basis,
     a: usize,
     b: usize,
     t: usize,
@@ -147,11 +146,11 @@ fn block_products(
 ) -> bool
     requires { Fit z s.old × (length out.old ≡ 2 * z.l + 1) × (a < z.n) × (b < z.n) × (t < z.n) }
     ensures fit { Fit z s.new }
-    ensures done { Records (products of_x a b t) s.old result s.new }
+    ensures done { Records (products basis a b t) s.old result s.new }
 {
     let mut i = 0;
     while i < 7 {
-        if !block_product(s, z, of_x, a, b, t, i, out) {
+        if !block_product(s, z, basis, a, b, t, i, out) {
             return false;
         }
         i += 1;
@@ -165,10 +164,10 @@ fn block_both(s: &mut [u64], z: Sizes, q: usize, out: &mut [u64]) -> bool
     ensures fit { Fit z s.new }
     ensures done { Records (events_of (Mark.Reset q)) s.old result s.new }
 {
-    if !block(s, z, false, q, out) {
+    if !block(s, z, Basis::Z, q, out) {
         return false;
     }
-    block(s, z, true, q, out)
+    block(s, z, Basis::X, q, out)
 }
 
 // Records all events of a mark.
@@ -199,9 +198,9 @@ pub fn marked(
     };
     match mark {
         Mark::Rotation { kind, q, tag } => rotate(s, z, kind, q, tag, out),
-        Mark::Measure(q) => block(s, z, false, q, out),
+        Mark::Measure(q) => block(s, z, Basis::Z, q, out),
         Mark::Reset(q) => block_both(s, z, q, out),
-        Mark::Ccx(a, b, t) => block_products(s, z, true, a, b, t, out),
-        Mark::Ccz(a, b, t) => block_products(s, z, false, a, b, t, out),
+        Mark::Ccx(a, b, t) => block_products(s, z, Basis::X, a, b, t, out),
+        Mark::Ccz(a, b, t) => block_products(s, z, Basis::Z, a, b, t, out),
     }
 }

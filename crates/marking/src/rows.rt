@@ -1,6 +1,6 @@
 // The axes to record, read off the frames' words f into a lent row of 2 l + 1 words, phase first (the Rust's buffer): the store that is written
 // cannot be read at the same time.
-ghost use Rattle.std.specs.Prelude.{◌≡◌, true, cond, ℕ, ◌+◌, ◌*◌, ◌<◌, length, get_or};
+ghost use Rattle.std.specs.Prelude.{◌≡◌, cond, ℕ, ◌+◌, ◌*◌, ◌<◌, length, get_or, IsOk};
 ghost use Rattle.model.specs.Pauli.{Pauli, times};
 ghost use Rattle.model.specs.Frame.{Rows, axis, z_at, paulis};
 ghost use Rattle.model.specs.Sketch.{Label};
@@ -9,34 +9,38 @@ ghost use Rattle.frame.specs.Places.{Sized, IsRow, Held};
 ghost use Rattle.frame.specs.Axes.{axis_of, kind_of};
 ghost use Rattle.marking.specs.Axes.{Sets};
 
-use frame::axes::{Kind, axis_row};
+use frame::axes::{Basis, Kind, axis_row, y_product};
+use pauli::corrupt::Corrupt;
 
 // The row x[q] or z[q].
-pub fn row_into(f: &[u64], n: usize, l: usize, of_x: bool, q: usize, out: &mut [u64])
+pub fn row_into(f: &[u64], n: usize, l: usize, basis: Basis, q: usize, out: &mut [u64])
     requires { Sized (2 * n) l f.now × (q < n) × (length out.old ≡ 2 * l + 1) }
-    ensures { (r : Rows Pauli) (k : Rows Label) → Held n l r k f.now → IsRow l out.new 0 (axis_of of_x r q) }
+    ensures { (r : Rows Pauli) (k : Rows Label) → Held n l r k f.now → IsRow l out.new 0 (axis_of basis r q) }
 {
-    pauli::fill::copy(out, 0, axis_row(f, n, l, of_x, q));
+    pauli::fill::copy(out, 0, axis_row(f, n, l, basis, q));
 }
 
-// The axis of a kind. The answer is false where a phase met is none.
-pub fn axis_into(f: &[u64], n: usize, l: usize, kind: Kind, q: usize, out: &mut [u64]) -> bool
+// The axis of a kind. It fails where a phase met is none.
+pub fn axis_into(
+    f: &[u64],
+    n: usize,
+    l: usize,
+    kind: Kind,
+    q: usize,
+    out: &mut [u64],
+) -> Result<(), Corrupt>
     requires { Sized (2 * n) l f.now × (q < n) × (length out.old ≡ 2 * l + 1) }
-    ensures { (r : Rows Pauli) (k : Rows Label) → Held n l r k f.now → (result ≡ true) × IsRow l out.new 0 (axis paulis (kind_of kind) q r) }
+    ensures { (r : Rows Pauli) (k : Rows Label) → Held n l r k f.now → IsOk result × IsRow l out.new 0 (axis paulis (kind_of kind) q r) }
 {
     match kind {
         Kind::X => {
-            row_into(f, n, l, true, q, out);
-            true
+            row_into(f, n, l, Basis::X, q, out);
+            Ok(())
         }
-        Kind::Y => frame::axes::y_product(f, n, l, q, out),
-        Kind::Z => {
-            row_into(f, n, l, false, q, out);
-            true
-        }
-        Kind::P => {
-            row_into(f, n, l, false, q, out);
-            true
+        Kind::Y => y_product(f, n, l, q, out),
+        Kind::Z | Kind::P => {
+            row_into(f, n, l, Basis::Z, q, out);
+            Ok(())
         }
     }
 }
@@ -60,7 +64,7 @@ pub fn product_into(
     f: &[u64],
     n: usize,
     l: usize,
-    of_x: bool,
+    basis: Basis,
     a: usize,
     b: usize,
     t: usize,
@@ -68,11 +72,11 @@ pub fn product_into(
     out: &mut [u64],
 )
     requires { Sized (2 * n) l f.now × (a < n) × (b < n) × (t < n) × (i < 7) × (length out.old ≡ 2 * l + 1) }
-    ensures { (r : Rows Pauli) (k : Rows Label) → Held n l r k f.now → Sets l out.new (get_or (seven (z_at paulis r a) (z_at paulis r b) (axis_of of_x r t)) i paulis.unit) }
+    ensures { (r : Rows Pauli) (k : Rows Label) → Held n l r k f.now → Sets l out.new (get_or (seven (z_at paulis r a) (z_at paulis r b) (axis_of basis r t)) i paulis.unit) }
 {
     let subset = i + 1;
     pauli::fill::clear(out, 1, 2 * l);
-    join(out, axis_row(f, n, l, false, a), subset % 2 == 1);
-    join(out, axis_row(f, n, l, false, b), subset / 2 % 2 == 1);
-    join(out, axis_row(f, n, l, of_x, t), subset / 4 == 1);
+    join(out, axis_row(f, n, l, Basis::Z, a), subset % 2 == 1);
+    join(out, axis_row(f, n, l, Basis::Z, b), subset / 2 % 2 == 1);
+    join(out, axis_row(f, n, l, basis, t), subset / 4 == 1);
 }

@@ -12,7 +12,7 @@ use mir.Syntax.{w8}
 use Rattle.model.specs.Pauli.{Pauli, count, quarter, sign_of, sign, apart, anti}
 use Rattle.model.specs.Demands.{IsSign}
 use Rattle.pauli.specs.Rows.{value, x_of, z_of, of_row, answer}
-use Rattle.pauli.specs.declared.rows.Signum.TheVariants.{Is, No}
+use Rattle.std.proofs.Common.{Some, None}
 use Rattle.pauli.proofs.Words.{rest_part}
 
 -- what two crossings of a row's planes with another's say
@@ -38,19 +38,19 @@ quartered row phase y h =
     omega (arith, h')
 
 -- the answers by quarter
-pub answer_plus : (p : Pauli) → quarter p ≡ 0 → Is (pos 1) ≡ answer (sign p)
+pub answer_plus : (p : Pauli) → quarter p ≡ 0 → Some (pos 1) ≡ answer (sign p)
 unfolding sign sign_of answer
 answer_plus p e = sym (ap (λ (q : ℕ). answer (sign_of q)) e)
 
-pub answer_minus : (p : Pauli) → quarter p ≡ 2 → Is (negsuc 0) ≡ answer (sign p)
+pub answer_minus : (p : Pauli) → quarter p ≡ 2 → Some (negsuc 0) ≡ answer (sign p)
 unfolding sign sign_of answer
 answer_minus p e = sym (ap (λ (q : ℕ). answer (sign_of q)) e)
 
-pub answer_none : (p : Pauli) → (quarter p ≡ 0 → ⊥) → (quarter p ≡ 2 → ⊥) → No ≡ answer (sign p)
+pub answer_none : (p : Pauli) → (quarter p ≡ 0 → ⊥) → (quarter p ≡ 2 → ⊥) → None ≡ answer (sign p)
 unfolding sign sign_of answer
 answer_none p f g = go (quarter p) f g
   where
-    go : (q : ℕ) → (q ≡ 0 → ⊥) → (q ≡ 2 → ⊥) → No ≡ answer (sign_of q)
+    go : (q : ℕ) → (q ≡ 0 → ⊥) → (q ≡ 2 → ⊥) → None ≡ answer (sign_of q)
     go zero f g = absurd (f refl)
     go (suc zero) f g = refl
     go (suc (suc zero)) f g = absurd (g refl)

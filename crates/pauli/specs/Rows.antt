@@ -1,10 +1,8 @@
 -- Words as sets of qubits and rows as words. What a row is, its sign and anticommutation are `model`'s. Assumes nothing.
-use Rattle.std.specs.Prelude.{◌≡◌, ◌⊎◌, Bool, true, false, cond, List, [], ◌∷◌, ℕ, zero, suc, ◌+◌, ◌*◌, ◌/◌, ◌^◌, ◌≤◌, ◌<◌, length, take, drop, get_or, ℤ, pos, negsuc}
+use Rattle.std.specs.Prelude.{◌≡◌, ◌⊎◌, Bool, true, false, cond, Option, Some, None, List, [], ◌∷◌, ℕ, zero, suc, ◌+◌, ◌*◌, ◌/◌, ◌^◌, ◌≤◌, ◌<◌, length, take, drop, get_or, ℤ, pos, negsuc}
 use Rattle.std.specs.Int.Bits.{bit_xor}
 use Rattle.model.specs.Pauli.{Pauli}
 use Rattle.model.specs.Events.{touches}
-use Rattle.pauli.specs.declared.rows.Signum.{Signum}
-use Rattle.pauli.specs.declared.rows.Signum.TheVariants.{Is, No}
 
 -- ---- words
 
@@ -39,10 +37,10 @@ Decides true P = P
 Decides false P = P → ⊥
 
 -- `model`'s sign as the code answers it: 0 is no sign
-unfoldable pub answer : ℤ → Signum
-answer (pos zero) = No
-answer (pos (suc k)) = Is (pos (suc k))
-answer (negsuc k) = Is (negsuc k)
+unfoldable pub answer : ℤ → Option ℤ
+answer (pos zero) = None
+answer (pos (suc k)) = Some (pos (suc k))
+answer (negsuc k) = Some (negsuc k)
 
 -- ---- signatures
 

@@ -40,28 +40,18 @@ fn ys(x: &[u64], z: &[u64]) -> u64
 
 // ---- signs
 
-// The sign of a row, or that it has none.
-#[derive(Clone, Copy)]
-pub enum Signum {
-    Is(i8),
-    No,
-}
-
-// The sign that the phase of a row gives.
-pub fn sign(row: &[u64], phase: u64) -> Signum
+// The sign that the phase of a row gives, if it gives one.
+pub fn sign(row: &[u64], phase: u64) -> Option<i8>
     requires { (length row.now % 2 ≡ 0) × (phase < 4) }
     ensures { result ≡ answer (sign (of_row phase row.now)) }
 {
     let l = row.len() / 2;
     let y = ys(&row[..l], &row[l..]);
-    let q = (phase + 4 - y) % 4;
-    if q == 0 {
-        return Signum::Is(1);
+    match (phase + 4 - y) % 4 {
+        0 => Some(1),
+        2 => Some(-1),
+        _ => None,
     }
-    if q == 2 {
-        return Signum::Is(-1);
-    }
-    Signum::No
 }
 
 // The product of two signs.

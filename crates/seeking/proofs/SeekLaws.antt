@@ -24,8 +24,7 @@ use Rattle.model.proofs.Products.{has_sign}
 use Rattle.model.proofs.Within.{Within-axis}
 use Rattle.pauli.specs.Rows as rows
 use Rattle.pauli.specs.Rows.{of_row}
-use Rattle.pauli.specs.declared.rows.Signum.{Signum}
-use Rattle.pauli.specs.declared.rows.Signum.TheVariants as signum
+use Rattle.std.proofs.Common.{Option, Some, None}
 use Rattle.pauli.proofs.Signs.{sign_cases, bits8, bits8_sign}
 use Rattle.pauli.proofs.Words.{rest_length}
 use Rattle.frame.specs.Places as frames
@@ -208,15 +207,15 @@ module _ (z : Sizes) (s : List ℕ) (fit : Fit z s) (id : ℕ) (r : Told)
 -- ---- a look
 
 -- the sign that a partner keeps, and the row's own: r is what is told of the row's sign
-module _ (row : List ℕ) (r : Signum) (signs : (l : ℕ) (p : Pauli) → length row ≡ 2 * l + 1 → IsRow l row 0 p → r ≡ rows.answer (sign p)) (id n : ℕ) (kept : ℤ) where
+module _ (row : List ℕ) (r : Option ℤ) (signs : (l : ℕ) (p : Pauli) → length row ≡ 2 * l + 1 → IsRow l row 0 p → r ≡ rows.answer (sign p)) (id n : ℕ) (kept : ℤ) where
   abbrev Relative : Sight → Type 0
   Relative v = (l : ℕ) (p : Pauli) → length row ≡ 2 * l + 1 → IsRow l row 0 p → HasSign p → IsSign kept → told_look v ≡ looked (found id (kept *ℤ sign p) n)
 
   -- "0 gives +1, 2 gives -1, and 1 or 3 never occurs"
-  pub Relative-none : r ≡ signum.No → Relative (sight.Refused 9)
+  pub Relative-none : r ≡ None → Relative (sight.Refused 9)
   Relative-none e l p long i s t = absurd (some_sign (sign p) s (sym e ∙ signs l p long i))
 
-  module _ (own : ℤ) (signed : IsSign own) (e : r ≡ signum.Is own) where
+  module _ (own : ℤ) (signed : IsSign own) (e : r ≡ Some own) where
     Relative-is : (both : ℤ) → (IsSign kept → both ≡ kept *ℤ own) → Relative (sight.Found id both n)
     unfolding told_look
     Relative-is both f l p long i s t = ap (λ (k : ℤ). looked (found id k n)) (f t ∙ ap (λ (k : ℤ). kept *ℤ k) (is_sign (sign p) own s (sym e ∙ signs l p long i)))

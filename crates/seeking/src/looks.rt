@@ -14,10 +14,10 @@ ghost use Rattle.store.specs.Checks.{Fit, sizes};
 ghost use Rattle.store.specs.Promises.{number, told_look, Answers};
 ghost use Rattle.seeking.specs.Sights.{SignSeen, sight_of};
 
-use frame::axes::{Kind, axis_row, label, row_sign, y_product};
+use frame::axes::{Basis, Kind, axis_row, label, row_sign, y_product};
 use history::forms::Form;
 use history::looks::Seen;
-use pauli::rows::{Signum, opposite};
+use pauli::rows::opposite;
 use store::answers::Sight;
 use store::header::{Checked, Sizes, check, sizes_of};
 
@@ -30,8 +30,8 @@ fn relative(id: usize, kept: i8, steps: u32, row: &[u64]) -> Sight
     ensures says { (l : ℕ) (p : Pauli) → length row.now ≡ 2 * l + 1 → IsRow l row.now 0 p → HasSign p → IsSign kept → told_look result ≡ looked (found id (kept *ℤ sign p) steps) }
 {
     match row_sign(row) {
-        Signum::No => Sight::Refused(9),
-        Signum::Is(own) => {
+        None => Sight::Refused(9),
+        Some(own) => {
             let both = if kept == 1 { own } else { opposite(own) };
             Sight::Found {
                 id: id,
@@ -110,10 +110,10 @@ fn sought_y(
     ensures few { number (told_look result) ≤ 9 }
     ensures says { (m : State) → Held m s.now → told_look result ≡ looked (look kind_y q m) }
 {
-    if y_product(&s[14..at], n, l, q, out) {
-        return sought(s, n, l, form, cap, allowance, at, end, Kind::Y, q, out);
+    match y_product(&s[14..at], n, l, q, out) {
+        Ok(()) => sought(s, n, l, form, cap, allowance, at, end, Kind::Y, q, out),
+        Err(_) => Sight::Refused(9),
     }
-    Sight::Refused(9)
 }
 
 // The same with a row of its own: up to 192 qubits no large one is cleared.
@@ -162,10 +162,10 @@ fn wide_y(s: &[u64], z: Sizes, q: usize) -> Sight
 }
 
 // The look for the axis x or z, whose row is read in place.
-fn in_place(s: &[u64], z: Sizes, of_x: bool, kind: Kind, q: usize) -> Sight
+fn in_place(s: &[u64], z: Sizes, basis: Basis, kind: Kind, q: usize) -> Sight
     requires { Fit z s.now × (q < z.n) }
     ensures few { number (told_look result) ≤ 9 }
-    ensures says { (m : State) → Held m s.now → ((row : List ℕ) → IsRow z.l row 0 (axis_of of_x m.frame q) → IsRow z.l row 0 (axis paulis (kind_of kind) q m.frame)) → told_look result ≡ looked (look (kind_of kind) q m) }
+    ensures says { (m : State) → Held m s.now → ((row : List ℕ) → IsRow z.l row 0 (axis_of basis m.frame q) → IsRow z.l row 0 (axis paulis (kind_of kind) q m.frame)) → told_look result ≡ looked (look (kind_of kind) q m) }
 {
     let at = z.at;
     let form = z.form;
@@ -180,7 +180,7 @@ fn in_place(s: &[u64], z: Sizes, of_x: bool, kind: Kind, q: usize) -> Sight
         z.end,
         kind,
         q,
-        axis_row(&s[14..at], z.n, z.l, of_x, q),
+        axis_row(&s[14..at], z.n, z.l, basis, q),
     )
 }
 
@@ -191,15 +191,15 @@ fn sought_kind(s: &[u64], z: Sizes, kind: Kind, q: usize) -> Sight
     ensures says { (m : State) → Held m s.now → told_look result ≡ looked (look (kind_of kind) q m) }
 {
     match kind {
-        Kind::X => in_place(s, z, true, kind, q),
+        Kind::X => in_place(s, z, Basis::X, kind, q),
         Kind::Y => {
             if z.l <= 3 {
                 return narrow_y(s, z, q);
             }
             wide_y(s, z, q)
         }
-        Kind::Z => in_place(s, z, false, kind, q),
-        Kind::P => in_place(s, z, false, kind, q),
+        Kind::Z => in_place(s, z, Basis::Z, kind, q),
+        Kind::P => in_place(s, z, Basis::Z, kind, q),
     }
 }
 

@@ -6,7 +6,7 @@ use Rattle.cases.proofs.SeenLaws.{case5_is}
 use Rattle.cases.proofs.case5.Goals as goal
 
 pub expect-requires : goal.expect-requires
-expect-requires c = (c.y_product.ensures.row _ _ c.fresh.ensures).0
+expect-requires c = c.is_ok.ensures.value ∙ (c.y_product.ensures.row _ _ c.fresh.ensures).0
 
 pub expect-requires-2 : goal.expect-requires-2
 expect-requires-2 c =

@@ -5,7 +5,7 @@ use Rattle.cases.proofs.SeenLaws.{case7_is}
 use Rattle.cases.proofs.case7.Goals as goal
 
 pub expect-requires : goal.expect-requires
-expect-requires c = (c.gate_sdg.ensures _ _ c.fresh.ensures).0
+expect-requires c = c.is_ok.ensures.value ∙ (c.gate_sdg.ensures _ _ c.fresh.ensures).0
 
 pub expect-requires-2 : goal.expect-requires-2
 expect-requires-2 c = eq-eqb _ 1 (c.of_y.ensures _ _ (c.gate_sdg.ensures _ _ c.fresh.ensures).1 ∙ case7_is)

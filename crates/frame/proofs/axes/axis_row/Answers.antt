@@ -5,9 +5,9 @@ use Rattle.frame.proofs.axes.axis_row.Goals as goal
 pub returns-clause-long : goal.returns-clause-long
 returns-clause-long c =
     let a = c.args in
-    lent_length a.n a.l a.q a.s.now _ a.of_x c.requires.0 c.requires.1 c.row_of.ensures
+    lent_length a.n a.l a.q a.s.now _ a.basis c.requires.0 c.requires.1 c.row_of.ensures
 
 pub returns-clause-row : goal.returns-clause-row
 returns-clause-row c =
     let a = c.args in
-    lent_row a.n a.l a.q a.s.now _ a.of_x c.requires.0 c.requires.1 c.row_of.ensures
+    lent_row a.n a.l a.q a.s.now _ a.basis c.requires.0 c.requires.1 c.row_of.ensures

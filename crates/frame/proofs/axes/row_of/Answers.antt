@@ -2,12 +2,12 @@
 use Rattle.frame.proofs.AxisLaws.{first_words, second_words}
 use Rattle.frame.proofs.axes.row_of.Goals as goal
 
-pub returns-then-of_x : goal.returns-then-of_x
-returns-then-of_x c =
+pub returns-in-X : goal.returns-in-X
+returns-in-X c =
     let a = c.args in
-    first_words a.l a.q a.of_x a.xs.now a.zs.now c.if-of_x.true
+    first_words a.l a.q a.basis a.xs.now a.zs.now c.in-X.is
 
-pub returns : goal.returns
-returns c =
+pub returns-in-Z : goal.returns-in-Z
+returns-in-Z c =
     let a = c.args in
-    second_words a.l a.q a.of_x a.xs.now a.zs.now c.if-of_x.false
+    second_words a.l a.q a.basis a.xs.now a.zs.now c.in-Z.is

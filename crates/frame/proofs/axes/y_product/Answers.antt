@@ -16,5 +16,5 @@ returns-clause-row c =
     let x = c.joined-odd in
     λ f k held. (
       refl,
-      y_row a.n a.l a.q x.result a.s.now x.new.out f k c.requires.1 (λ i. (c.shared_slice_known-1.given i).fits) held x.ensures.done x.ensures.crossed,
+      rw (c.in_ok-p.ensures.phase.0, c.in_ok-t.ensures.phase.0) (y_row a.n a.l a.q x.result a.s.now x.new.out f k c.requires.1 (λ i. (c.shared_slice_known-1.given i).fits) held x.ensures.done x.ensures.crossed),
     )

@@ -1,15 +1,15 @@
 -- `frame::gates::gate_cz` meets its contract. Assumes nothing.
 use Prim.Native.Nat.{◌+◌, ◌*◌}
-use Rattle.model.specs.Frame.{Ops}
-use Rattle.frame.specs.Places.{times_row}
-use Rattle.frame.proofs.GateLaws.{Does-cz, Moves-then, Moves-no}
+use Rattle.model.specs.Frame.{Ops, cz_gate}
+use Rattle.frame.specs.Places.{times_row, applied}
+use Rattle.frame.proofs.GateLaws.{Does-cz, Moves-then, Moves-failed}
 use Rattle.frame.proofs.gates.gate_cz.Goals as goal
 
-pub returns-then-times : goal.returns-then-times
-returns-then-times c =
-    Does-cz c.args.n c.args.l c.args.s.now _ _ c.args.c c.args.t c.requires.1 c.requires.2 c.requires.3
-    (Moves-then (2 * c.args.n) c.args.l (λ (A : Type 0) (o : Ops A). times_row o 0 (2 * c.args.c) (2 * c.args.t + 1)) (λ (A : Type 0) (o : Ops A). times_row o 0 (2 * c.args.t) (2 * c.args.c + 1)) c.args.s.now _ _ _ _ c.times.ensures c.times-then-times.ensures)
-
 pub returns : goal.returns
-returns c = λ r k held.
-    absurd (Moves-no c.args.n c.args.l (λ (A : Type 0) (o : Ops A). times_row o 0 (2 * c.args.c) (2 * c.args.t + 1)) c.args.s.now _ _ c.if-times.false c.times.ensures r k held)
+returns c =
+    Does-cz c.args.n c.args.l c.args.s.now _ _ c.args.c c.args.t c.requires.1 c.requires.2 c.requires.3
+    (Moves-then (2 * c.args.n) c.args.l (λ (A : Type 0) (o : Ops A). times_row o 0 (2 * c.args.c) (2 * c.args.t + 1)) (λ (A : Type 0) (o : Ops A). times_row o 0 (2 * c.args.t) (2 * c.args.c + 1)) c.args.s.now _ _ _ _ c.in_ok-times.ensures c.times-2.ensures)
+
+pub returns-in_err-times : goal.returns-in_err-times
+returns-in_err-times c =
+    Moves-failed c.args.n c.args.l (λ (A : Type 0) (o : Ops A). times_row o 0 (2 * c.args.c) (2 * c.args.t + 1)) (applied (cz_gate c.args.c c.args.t)) c.args.s.now _ _ _ c.in_err-times.ensures

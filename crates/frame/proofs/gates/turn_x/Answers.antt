@@ -8,5 +8,5 @@ pub returns : goal.returns
 unfolding gate turn
 returns c =
     Does-after c.args.n c.args.l (after (λ (A : Type 0) (o : Ops A). turn_z o c.args.k c.args.q) (applied (h_gate c.args.q))) (applied (h_gate c.args.q)) c.args.s.now _ _ _
-    (Does-then c.args.n c.args.l (applied (h_gate c.args.q)) (λ (A : Type 0) (o : Ops A). turn_z o c.args.k c.args.q) c.args.s.now _ _ _ _ c.gate_h.ensures c.turn_z-ok.ensures)
+    (Does-then c.args.n c.args.l (applied (h_gate c.args.q)) (λ (A : Type 0) (o : Ops A). turn_z o c.args.k c.args.q) c.args.s.now _ _ _ _ c.gate_h.ensures c.turn_z-done.ensures)
     c.gate_h-2.ensures

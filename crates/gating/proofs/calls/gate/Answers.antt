@@ -1,5 +1,6 @@
 -- `gating::calls::gate` meets its contract: each return by its own law of how a call ends. Assumes nothing.
-use mathlib.Core.Path.{◌≡◌, sym, ◌∙◌}
+use mathlib.Core.Bool.{true, false}
+use mathlib.Core.Path.{◌≡◌, refl, sym, ◌∙◌}
 use mathlib.Core.List.{List}
 use Prim.Native.Nat.{ℕ, ◌+◌, ◌-◌, ◌*◌}
 use Rattle.model.specs.Calls.{call_gate, gate_qubits}
@@ -49,14 +50,14 @@ act-requires c =
     let g = (start (goal.at.act-requires c).In-Ready).args.g in
     (frames_long c.in-Ready.n c.in-Ready.l s (framing r) _ (size c.in-Ready.n c.in-Ready.l), qubits_fit c.in-Ready.n (gate_of g) (sym c.refusal-k.ensures ∙ c.if-k-ne0.false))
 
-pub returns-then-act : goal.returns-then-act
+pub returns-in-Ok : goal.returns-in-Ok
 unfolding told
-returns-then-act c =
-    let r = (goal.at.returns-then-act c).After-refusal-k in
-    let s = words (goal.at.returns-then-act c).In-Ready in
-    let g = (start (goal.at.returns-then-act c).In-Ready).args.g in
-    gate_done (gate_of g) c.in-Ready.n c.in-Ready.l s (framing r) (sym c.refusal-k.ensures ∙ c.if-k-ne0.false) _ (size c.in-Ready.n c.in-Ready.l) c.act.new.f c.act.result
-    c.s-1.given.0 c.act.ensures
+returns-in-Ok c =
+    let r = (goal.at.returns-in-Ok c).After-refusal-k in
+    let s = words (goal.at.returns-in-Ok c).In-Ready in
+    let g = (start (goal.at.returns-in-Ok c).In-Ready).args.g in
+    gate_done (gate_of g) c.in-Ready.n c.in-Ready.l s (framing r) (sym c.refusal-k.ensures ∙ c.if-k-ne0.false) _ (size c.in-Ready.n c.in-Ready.l) c.act.new.f true
+    c.s-1.given.0 c.in-Ok.ensures
 
 pub returns-in-Short : goal.returns-in-Short
 unfolding told
@@ -68,11 +69,11 @@ unfolding told
 returns-in-Bad c =
     Damaged-Meets (call_gate (gate_of c.args.g)) c.args.s.now (told_bad c.args.s.now c.frame_sizes.result c.in-Bad.is c.frame_sizes.ensures)
 
-pub returns-else-act : goal.returns-else-act
+pub returns-in-Err : goal.returns-in-Err
 unfolding told
-returns-else-act c =
-    let r = (goal.at.returns-else-act c).After-refusal-k in
-    let s = words (goal.at.returns-else-act c).In-Ready in
-    let g = (start (goal.at.returns-else-act c).In-Ready).args.g in
+returns-in-Err c =
+    let r = (goal.at.returns-in-Err c).After-refusal-k in
+    let s = words (goal.at.returns-in-Err c).In-Ready in
+    let g = (start (goal.at.returns-in-Err c).In-Ready).args.g in
     framed_nine (call_gate (gate_of g)) c.in-Ready.n c.in-Ready.l s (framing r) (qubit_number c.in-Ready.n (gate_qubits (gate_of g))) (gate_number c.in-Ready.n c.in-Ready.l s (gate_of g) (framing r))
-    (applied (gate_of g)) _ (size c.in-Ready.n c.in-Ready.l) c.act.new.f c.act.result c.s-1.given.0 c.act.ensures c.if-act.false
+    (applied (gate_of g)) _ (size c.in-Ready.n c.in-Ready.l) c.act.new.f false c.s-1.given.0 c.in-Err.ensures refl

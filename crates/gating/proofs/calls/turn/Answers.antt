@@ -1,5 +1,6 @@
 -- `gating::calls::turn` meets its contract: each return by its own law of how a call ends. Assumes nothing.
-use mathlib.Core.Path.{◌≡◌, sym, ◌∙◌}
+use mathlib.Core.Bool.{true, false}
+use mathlib.Core.Path.{◌≡◌, refl, sym, ◌∙◌}
 use mathlib.Core.List.{List}
 use Prim.Native.Nat.{ℕ, ◌+◌, ◌-◌, ◌*◌}
 use Rattle.model.specs.Frame.{Ops, turn}
@@ -50,14 +51,14 @@ turned-requires c =
     let a = (start (goal.at.turned-requires c).In-Ready).args in
     (frames_long c.in-Ready.n c.in-Ready.l s (framing r) _ (size c.in-Ready.n c.in-Ready.l), turn_fits c.in-Ready.n a.k a.q (sym c.turn_refusal-no.ensures ∙ c.if-no-ne0.false))
 
-pub returns-then-turned : goal.returns-then-turned
+pub returns-in-Ok : goal.returns-in-Ok
 unfolding told
-returns-then-turned c =
-    let r = (goal.at.returns-then-turned c).After-turn_refusal-no in
-    let s = words (goal.at.returns-then-turned c).In-Ready in
-    let a = (start (goal.at.returns-then-turned c).In-Ready).args in
-    turn_done (kind_of a.kind) a.k a.q c.in-Ready.n c.in-Ready.l s (framing r) (sym c.turn_refusal-no.ensures ∙ c.if-no-ne0.false) _ (size c.in-Ready.n c.in-Ready.l) c.turned.new.f c.turned.result
-    c.s-1.given.0 c.turned.ensures
+returns-in-Ok c =
+    let r = (goal.at.returns-in-Ok c).After-turn_refusal-no in
+    let s = words (goal.at.returns-in-Ok c).In-Ready in
+    let a = (start (goal.at.returns-in-Ok c).In-Ready).args in
+    turn_done (kind_of a.kind) a.k a.q c.in-Ready.n c.in-Ready.l s (framing r) (sym c.turn_refusal-no.ensures ∙ c.if-no-ne0.false) _ (size c.in-Ready.n c.in-Ready.l) c.turned.new.f true
+    c.s-1.given.0 c.in-Ok.ensures
 
 pub returns-in-Short : goal.returns-in-Short
 unfolding told
@@ -69,11 +70,11 @@ unfolding told
 returns-in-Bad c =
     Damaged-Meets (call_turn (kind_of c.args.kind) c.args.k c.args.q) c.args.s.now (told_bad c.args.s.now c.frame_sizes.result c.in-Bad.is c.frame_sizes.ensures)
 
-pub returns-else-turned : goal.returns-else-turned
+pub returns-in-Err : goal.returns-in-Err
 unfolding told
-returns-else-turned c =
-    let r = (goal.at.returns-else-turned c).After-turn_refusal-no in
-    let s = words (goal.at.returns-else-turned c).In-Ready in
-    let a = (start (goal.at.returns-else-turned c).In-Ready).args in
+returns-in-Err c =
+    let r = (goal.at.returns-in-Err c).After-turn_refusal-no in
+    let s = words (goal.at.returns-in-Err c).In-Ready in
+    let a = (start (goal.at.returns-in-Err c).In-Ready).args in
     framed_nine (call_turn (kind_of a.kind) a.k a.q) c.in-Ready.n c.in-Ready.l s (framing r) (turn_number c.in-Ready.n a.k a.q) (turn_number_lem c.in-Ready.n c.in-Ready.l s (kind_of a.kind) a.k a.q (framing r))
-    (λ (A : Type 0) (o : Ops A). turn o (kind_of a.kind) a.k a.q) _ (size c.in-Ready.n c.in-Ready.l) c.turned.new.f c.turned.result c.s-1.given.0 c.turned.ensures c.if-turned.false
+    (λ (A : Type 0) (o : Ops A). turn o (kind_of a.kind) a.k a.q) _ (size c.in-Ready.n c.in-Ready.l) c.turned.new.f false c.s-1.given.0 c.in-Err.ensures refl

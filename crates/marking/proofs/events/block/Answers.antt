@@ -8,4 +8,4 @@ returns-clause-done c =
     let a = c.args in
     let row = c.row_into in
     let x = c.put in
-    row-Records a.z a.s.now row.new.out c.requires.0 (omega arith) x.new.s x.result a.of_x a.q row.ensures x.ensures.done
+    row-Records a.z a.s.now row.new.out c.requires.0 (omega arith) x.new.s x.result a.basis a.q row.ensures x.ensures.done

@@ -8,4 +8,4 @@ returns-clause-done c =
     let a = c.args in
     let row = c.product_into in
     let x = c.put in
-    product_Records a.z a.s.now row.new.out c.requires.0 (omega arith) x.new.s x.result a.of_x a.a a.b a.t a.i c.requires.5 row.ensures x.ensures.done
+    product_Records a.z a.s.now row.new.out c.requires.0 (omega arith) x.new.s x.result a.basis a.a a.b a.t a.i c.requires.5 row.ensures x.ensures.done

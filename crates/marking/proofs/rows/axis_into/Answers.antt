@@ -1,5 +1,6 @@
 -- `marking::rows::axis_into` meets its contract: a row of the frame, or the product of both. Assumes nothing.
 use mathlib.Core.Path.{refl}
+use mathlib.Core.Logic.{⊎_elim}
 use Rattle.model.specs.Frame.{axis}
 use Rattle.frame.specs.Axes.{axis_of, either, kind_of}
 use Rattle.frame.proofs.AxisLaws.{axis_x, axis_y, axis_z, axis_p}
@@ -21,10 +22,5 @@ pub returns-in-Z : goal.returns-in-Z
 unfolding axis axis_of either kind_of
 returns-in-Z c = λ r k held.
     let a = c.args in
-    (refl, axis_z a.kind a.q a.l c.row_into-in-Z.new.out r c.in-Z.is (c.row_into-in-Z.ensures r k held))
-
-pub returns-in-P : goal.returns-in-P
-unfolding axis axis_of either kind_of
-returns-in-P c = λ r k held.
-    let a = c.args in
-    (refl, axis_p a.kind a.q a.l c.row_into-in-P.new.out r c.in-P.is (c.row_into-in-P.ensures r k held))
+    let row = c.row_into-in-Z in
+    (refl, ⊎_elim (λ z. axis_z a.kind a.q a.l row.new.out r z (row.ensures r k held)) (λ p. axis_p a.kind a.q a.l row.new.out r p (row.ensures r k held)) c.in-Z.is)
