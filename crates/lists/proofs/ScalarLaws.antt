@@ -1,7 +1,7 @@
 -- A scalar list's words: a number pushed, the dead dropped one after the other, and the counts written. Assumes nothing.
 use mathlib.Core.Path.{◌≡◌, refl, sym, ap, ◌∙◌, subst}
 use mathlib.Core.Logic.{inl, inr, ⊎_elim}
-use mathlib.Core.Bool.{Bool, true, false, cond}
+use mathlib.Core.Bool.{Bool, true, false, cond, true≢false}
 use mathlib.Core.List.{List, [], ◌∷◌, ◌++◌, append-nil}
 use Prim.Native.Nat.{ℕ, ◌+◌, ◌-◌, ◌*◌, ◌/◌, ◌%◌, ◌≤◌, ◌<◌}
 use native.Mathlib.Nat.{not-suc-le-zero}
@@ -18,8 +18,8 @@ use Rattle.pauli.proofs.Walk.{same?}
 use Rattle.pauli.proofs.Words.{rest_part, rest_length}
 use Rattle.lists.specs.Lists.{Room, Numbers, Only, Among, is_live, Known, drops_at, left, still}
 use Rattle.lists.specs.Scalars.{Scalar, ScalarTo, pushed, noted, Retained, Dropped}
-use Rattle.lists.specs.declared.scalar.Step.{Step}
-use Rattle.lists.specs.declared.scalar.Step.TheVariants.{At, Bad}
+use Rattle.std.specs.Prelude.{Result, Ok, Err, IsErr}
+use Rattle.pauli.specs.declared.corrupt.Corrupt.{Corrupt}
 
 -- ---- a number at the end
 
@@ -81,19 +81,12 @@ pushed_to h at base cap id ids d room m lt = pushed_to_is h at base cap id (get_
 
 -- ---- the steps of a drop
 
-abbrev step_at : Step → ℕ
-step_at (At k) = k
-step_at Bad = 0
+pub same_Ok : {E : Type 0} (j k : ℕ) → ◌≡◌ {A = Result ℕ E} (Ok j) (Ok k) → j ≡ k
+same_Ok j k e = cc
 
-abbrev is_at : Step → Bool
-is_at (At k) = true
-is_at Bad = false
-
-pub at_same : (j k : ℕ) → At j ≡ At k → j ≡ k
-at_same j k e = ap step_at e
-
-pub bad_not : {A : Type 0} (k : ℕ) → Bad ≡ At k → A
-bad_not k e = clash (is_at Bad) (ap is_at e) refl
+pub err_not : {E A : Type 0} (r : Result ℕ E) (k : ℕ) → IsErr r → r ≡ Ok k → A
+err_not (Ok j) k b e = absurd (true≢false (sym b))
+err_not (Err x) k b e = absurd cc
 
 pub in_words : (e n : ℕ) → e < n → e / 64 < words n
 unfolding words
@@ -111,30 +104,30 @@ pub only_none : (P : ℕ → Type 0) (s : List ℕ) → Only P s s
 only_none P s = record { same_length = refl; kept = λ k f. refl }
 
 module _ (h : List ℕ) (base k alive events id : ℕ) where
-  pub Retained-bad : events ≤ id → Retained h base k alive events id Bad h
+  pub Retained-bad : events ≤ id → Retained h base k alive events id (Err (record {})) h
   Retained-bad l = record {
     unknown = λ g. refl;
     live = λ g. absurd (omega arith);
     dead = λ g. absurd (omega arith);
-    next = λ j e. bad_not j e;
+    next = λ j e. absurd cc;
     only = only_none (Among (base + k) 1) h;
   }
 
-  pub Retained-live : id < events → base + k < length h → is_live h alive id ≡ true → Retained h base k alive events id (At (k + 1)) (set h (base + k) id)
+  pub Retained-live : id < events → base + k < length h → is_live h alive id ≡ true → Retained h base k alive events id (Ok (k + 1)) (set h (base + k) id)
   Retained-live l f t = record {
     unknown = λ g. absurd (omega arith);
     live = λ g e. (refl, get_or-set_same h (base + k) id 0 f);
     dead = λ g e. clash (is_live h alive id) t e;
-    next = λ j e. omega (arith, at_same (k + 1) j e);
+    next = λ j e. omega (arith, same_Ok (k + 1) j e);
     only = record { same_length = length-set h (base + k) id; kept = λ j g. get_or-set_other h (base + k) j id 0 (λ e. g (omega arith, omega arith)) };
   }
 
-  pub Retained-dead : id < events → is_live h alive id ≡ false → Retained h base k alive events id (At k) h
+  pub Retained-dead : id < events → is_live h alive id ≡ false → Retained h base k alive events id (Ok k) h
   Retained-dead l t = record {
     unknown = λ g. absurd (omega arith);
     live = λ g e. clash (is_live h alive id) e t;
     dead = λ g e. (refl, refl);
-    next = λ j e. omega (arith, at_same k j e);
+    next = λ j e. omega (arith, same_Ok k j e);
     only = only_none (Among (base + k) 1) h;
   }
 
@@ -174,7 +167,7 @@ module _ (p : ℕ → Bool) (ids : List ℕ) (i x : ℕ) (l : i < length ids) (e
   unfolding keep
   keep_next_no t = ap (keep p) next_take ∙ keep_append p (take i ids) (x ∷ []) ∙ ap (λ (w : List ℕ). keep p (take i ids) ++ w) (keep_no p x [] t) ∙ append-nil (keep p (take i ids))
 
-module _ (s : List ℕ) (base len alive events : ℕ) (h : List ℕ) (i k : ℕ) (g : List ℕ) (id : ℕ) (r : Step)
+module _ (s : List ℕ) (base len alive events : ℕ) (h : List ℕ) (i k : ℕ) (g : List ℕ) (id : ℕ) (r : Result ℕ Corrupt)
     (sets : alive + words events ≤ base) (lt : i < len) (m : Dropping s base len alive events h i k) (word : id ≡ get_or h (base + i) 0)
     (turn : Retained h base k alive events id r g) where
   module _ (ids : List ℕ) (e : length ids ≡ len) (ns : Numbers s base ids) (known : Known events ids) where
@@ -195,26 +188,26 @@ module _ (s : List ℕ) (base len alive events : ℕ) (h : List ℕ) (i k : ℕ)
         let w = in_words id events id_known in
         ap (λ (v : ℕ). eqb (has v (id % 64)) 1) (so_far.only.kept (alive + id / 64) (λ q. omega (arith, q.0)))
 
-    turn_live : is_live s alive id ≡ true → (r ≡ At (k + 1)) × (get_or g (base + k) 0 ≡ id)
+    turn_live : is_live s alive id ≡ true → (r ≡ Ok (k + 1)) × (get_or g (base + k) 0 ≡ id)
     turn_live t = turn.live id_known (live_same ∙ t)
 
-    turn_dead : is_live s alive id ≡ false → (r ≡ At k) × (g ≡ h)
+    turn_dead : is_live s alive id ≡ false → (r ≡ Ok k) × (g ≡ h)
     turn_dead t = turn.dead id_known (live_same ∙ t)
 
-    not_bad : {A : Type 0} → r ≡ Bad → A
+    not_bad : {A : Type 0} → IsErr r → A
     not_bad {A} b = go (is_live s alive id) refl
       where
         go : (t : Bool) → is_live s alive id ≡ t → A
-        go true t = bad_not (k + 1) (sym b ∙ (turn_live t).0)
-        go false t = bad_not k (sym b ∙ (turn_dead t).0)
+        go true t = err_not r (k + 1) b (turn_live t).0
+        go false t = err_not r k b (turn_dead t).0
 
-    module _ (next : ℕ) (a : r ≡ At next) where
+    module _ (next : ℕ) (a : r ≡ Ok next) where
       Sifted-more : Sifted s base alive ids g (i + 1) next
       Sifted-more = go (is_live s alive id) refl
         where
           go : (t : Bool) → is_live s alive id ≡ t → Sifted s base alive ids g (i + 1) next
           go true t =
-              let n : next ≡ k + 1 = at_same next (k + 1) (sym a ∙ (turn_live t).0) in
+              let n : next ≡ k + 1 = same_Ok next (k + 1) (sym a ∙ (turn_live t).0) in
               let q : keep (is_live s alive) (take (i + 1) ids) ≡ pushed id (keep (is_live s alive) (take i ids)) = keep_next_yes (is_live s alive) ids i id (omega arith) id_is t in
               let c = so_far.count in
               let o = so_far.only in
@@ -230,7 +223,7 @@ module _ (s : List ℕ) (base len alive events : ℕ) (h : List ℕ) (i k : ℕ)
                 };
               }
           go false t =
-              let n : next ≡ k = at_same next k (sym a ∙ (turn_dead t).0) in
+              let n : next ≡ k = same_Ok next k (sym a ∙ (turn_dead t).0) in
               let q : keep (is_live s alive) (take (i + 1) ids) ≡ keep (is_live s alive) (take i ids) = keep_next_no (is_live s alive) ids i id (omega arith) id_is t in
               let c = so_far.count in
               record {
@@ -239,7 +232,7 @@ module _ (s : List ℕ) (base len alive events : ℕ) (h : List ℕ) (i k : ℕ)
                 only = subst (λ (w : List ℕ). Only (Among base next) s w) (sym (turn_dead t).1) (subst (λ (j : ℕ). Only (Among base j) s h) (sym n) so_far.only);
               }
 
-  pub Dropping-more : (next : ℕ) → r ≡ At next → Dropping s base len alive events g (i + 1) next
+  pub Dropping-more : (next : ℕ) → r ≡ Ok next → Dropping s base len alive events g (i + 1) next
   Dropping-more next a =
       let o = m.order in
       record {
@@ -249,26 +242,26 @@ module _ (s : List ℕ) (base len alive events : ℕ) (h : List ℕ) (i k : ℕ)
         all = λ ids e ns known. Sifted-more ids e ns known next a;
       }
 
-  pub Dropped-bad : r ≡ Bad → Dropped s base len alive events Bad g
-  Dropped-bad b = record {
+  pub Dropped-bad : IsErr r → (q : Result ℕ Corrupt) → IsErr q → Dropped s base len alive events q g
+  Dropped-bad b q f = record {
     long = turn.only.same_length ∙ m.long;
-    next = λ j e. bad_not j e;
+    next = λ j e. err_not q j f e;
     all = λ ids e ns known. not_bad ids e ns known b;
   }
 
-pub Dropped-all : (s : List ℕ) (base len alive events : ℕ) (h : List ℕ) (i k : ℕ) → len ≤ i → Dropping s base len alive events h i k → Dropped s base len alive events (At k) h
+pub Dropped-all : (s : List ℕ) (base len alive events : ℕ) (h : List ℕ) (i k : ℕ) → len ≤ i → Dropping s base len alive events h i k → Dropped s base len alive events (Ok k) h
 Dropped-all s base len alive events h i k l m =
     let o = m.order in
     let w = m.within in
     record {
       long = m.long;
-      next = λ j e. omega (arith, at_same k j e);
+      next = λ j e. omega (arith, same_Ok k j e);
       all = λ ids e ns known.
           let f = m.all ids e ns known in
           let q : i ≡ length ids = omega arith in
           let t : keep (is_live s alive) (take i ids) ≡ keep (is_live s alive) ids = ap (keep (is_live s alive)) (ap (λ (n : ℕ). take n ids) q ∙ take-length ids) in
           let c : k ≡ length (keep (is_live s alive) ids) = f.count ∙ ap (length {A = ℕ}) t in
-          (ap At c, subst (Numbers h base) t f.numbers, subst (λ (n : ℕ). Only (Among base n) s h) c f.only);
+          (ap Ok c, subst (Numbers h base) t f.numbers, subst (λ (n : ℕ). Only (Among base n) s h) c f.only);
     }
 
 -- ---- one more is dead
@@ -317,11 +310,11 @@ module _ (h : List ℕ) (at base cap alive : ℕ) (ids : List ℕ) (d : ℕ) (ro
       subst (λ (t : List ℕ). ScalarTo h at base cap t (still 4 (d + 1) (length ids)) (set h (at + 1) (get_or h (at + 1) 0 + 1))) (sym (noted_few h alive d ids few))
       (subst (λ (k : ℕ). ScalarTo h at base cap ids k (set h (at + 1) (get_or h (at + 1) 0 + 1))) (sym (still_few 4 (d + 1) (length ids) few)) is)
 
-  module _ (events : ℕ) (known : Known events ids) (g : List ℕ) (r : Step) (dropped : Dropped h base (get_or h at 0) alive events r g) where
-    pub drop_not_bad : {A : Type 0} → r ≡ Bad → A
-    drop_not_bad b = bad_not (length (keep (is_live h alive) ids)) (sym b ∙ (dropped.all ids (sym m.counts.len) m.numbers known).0)
+  module _ (events : ℕ) (known : Known events ids) (g : List ℕ) (r : Result ℕ Corrupt) (dropped : Dropped h base (get_or h at 0) alive events r g) where
+    pub drop_not_bad : {A : Type 0} → IsErr r → A
+    drop_not_bad b = err_not r (length (keep (is_live h alive) ids)) b (dropped.all ids (sym m.counts.len) m.numbers known).0
 
-    pub noted_dropped : (k : ℕ) → r ≡ At k → get_or h at 0 < 4 * (get_or h (at + 1) 0 + 1)
+    pub noted_dropped : (k : ℕ) → r ≡ Ok k → get_or h at 0 < 4 * (get_or h (at + 1) 0 + 1)
         → ScalarTo h at base cap (noted h alive d ids) (still 4 (d + 1) (length ids)) (set (set g at k) (at + 1) 0)
     noted_dropped k q l =
         let n = m.counts.len in
@@ -333,7 +326,7 @@ module _ (h : List ℕ) (at base cap alive : ℕ) (ids : List ℕ) (d : ℕ) (ro
         let long = dropped.long in
         let l₁ = length-set g at k in
         let l₂ = length-set (set g at k) (at + 1) 0 in
-        let c : k ≡ length (keep (is_live h alive) ids) = at_same k (length (keep (is_live h alive) ids)) (sym q ∙ all.0) in
+        let c : k ≡ length (keep (is_live h alive) ids) = same_Ok k (length (keep (is_live h alive) ids)) (sym q ∙ all.0) in
         let fewer = length-keep (is_live h alive) ids in
         let many : length ids < 4 * (d + 1) = omega arith in
         let at₂ : (j : ℕ) → (j ≡ at + 1 → ⊥) → get_or (set (set g at k) (at + 1) 0) j 0 ≡ get_or (set g at k) j 0 = λ j f. get_or-set_other (set g at k) (at + 1) j 0 0 f in

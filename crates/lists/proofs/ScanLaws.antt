@@ -28,9 +28,9 @@ use Rattle.pauli.proofs.Walk.{same?}
 use Rattle.pauli.proofs.Words.{x_plane, z_plane}
 use Rattle.lists.specs.Lists.{Rises, Splits}
 use Rattle.lists.specs.Scans.{steps, scan_of, Scannable, apart_from, Meets}
-use Rattle.lists.specs.declared.scalar.Met.{Met}
-use Rattle.lists.specs.declared.scalar.Met.TheVariants.{Past, Hit, Bad as bad}
-use Rattle.lists.specs.declared.budget.Scan.TheVariants.{Clear, Blocked, Out, Bad}
+use Rattle.std.specs.Prelude.{Result, Ok, Err, IsErr}
+use Rattle.pauli.specs.declared.corrupt.Corrupt.{Corrupt}
+use Rattle.lists.specs.declared.budget.Scan.TheVariants.{Clear, Blocked, Out}
 
 -- ---- the axis of an event, as a part
 
@@ -73,25 +73,27 @@ module _ (h : List ℕ) (sigs axes l events : ℕ) (axis : List ℕ) (wanted thi
   apart_is g f =
       ap₂ (λ (x z : ℕ). apart x z (x_of axis) (z_of axis)) (axis_x h (axes + id * (2 * l)) l (part_fits g f)) (axis_z h (axes + id * (2 * l)) l (part_fits g f))
 
-  pub apart_yes : (r : Bool) → id < events → axes + events * (2 * l) ≤ length h → Decides r (anti (of_row 0 (take (axes + id * (2 * l) + 2 * l - (axes + id * (2 * l))) (drop (axes + id * (2 * l)) h))) (of_row 0 axis) ≡ 1) → r ≡ true → apart_from h axes l id axis ≡ 1
-  apart_yes true g f d e = sym (apart_is g f) ∙ d
-  apart_yes false g f d e = absurd (false≢true e)
-
-  pub apart_no : (r : Bool) → id < events → axes + events * (2 * l) ≤ length h → Decides r (anti (of_row 0 (take (axes + id * (2 * l) + 2 * l - (axes + id * (2 * l))) (drop (axes + id * (2 * l)) h))) (of_row 0 axis) ≡ 1) → r ≡ false → apart_from h axes l id axis ≡ 1 → ⊥
-  apart_no true g f d e a = absurd (true≢false e)
-  apart_no false g f d e a = d (apart_is g f ∙ a)
-
-  pub Meets-bad : events ≤ id → Meets h sigs axes l events axis wanted this id bad
+  pub Meets-bad : events ≤ id → Meets h sigs axes l events axis wanted this id (Err (record {}))
   Meets-bad g = record { unknown = λ f. refl; apart = λ f. absurd (omega arith); hit = λ f. absurd (omega arith); past = λ f. absurd (omega arith) }
 
-  pub Meets-apart : id < events → (bit_and (get_or h (sigs + id) 0) wanted ≡ this → ⊥) → Meets h sigs axes l events axis wanted this id Past
+  pub Meets-apart : id < events → (bit_and (get_or h (sigs + id) 0) wanted ≡ this → ⊥) → Meets h sigs axes l events axis wanted this id (Ok false)
   Meets-apart g d = record { unknown = λ f. absurd (omega arith); apart = λ f e. refl; hit = λ f e. absurd (d e); past = λ f e a. refl }
 
-  pub Meets-hit : id < events → bit_and (get_or h (sigs + id) 0) wanted ≡ this → apart_from h axes l id axis ≡ 1 → Meets h sigs axes l events axis wanted this id Hit
-  Meets-hit g e a = record { unknown = λ f. absurd (omega arith); apart = λ f d. absurd (d e); hit = λ f q b. refl; past = λ f q b. absurd (omega arith) }
-
-  pub Meets-past : id < events → bit_and (get_or h (sigs + id) 0) wanted ≡ this → (apart_from h axes l id axis ≡ 1 → ⊥) → Meets h sigs axes l events axis wanted this id Past
-  Meets-past g e a = record { unknown = λ f. absurd (omega arith); apart = λ f d. refl; hit = λ f q b. absurd (a b); past = λ f q b. refl }
+  pub Meets-asked : (r : Bool) → id < events → axes + events * (2 * l) ≤ length h → bit_and (get_or h (sigs + id) 0) wanted ≡ this
+      → Decides r (anti (of_row 0 (take (axes + id * (2 * l) + 2 * l - (axes + id * (2 * l))) (drop (axes + id * (2 * l)) h))) (of_row 0 axis) ≡ 1)
+      → Meets h sigs axes l events axis wanted this id (Ok r)
+  Meets-asked true g f e d = record {
+    unknown = λ u. absurd (omega arith);
+    apart = λ _ a. absurd (a e);
+    hit = λ _ _ _. refl;
+    past = λ _ _ b. let q : ◌≡◌ {A = ℕ} 0 1 = sym b ∙ sym (apart_is g f) ∙ d in absurd (omega arith);
+  }
+  Meets-asked false g f e d = record {
+    unknown = λ u. absurd (omega arith);
+    apart = λ _ _. refl;
+    hit = λ _ _ b. absurd (d (apart_is g f ∙ b));
+    past = λ _ _ _. refl;
+  }
 
 -- ---- the digits of a signature
 
@@ -260,27 +262,27 @@ module _ (l x z b : ℕ) (e : Event) (live : Bool) (w sig : ℕ) (word : w ≡ c
       (λ j g. ap₂ min (alive_digit t j (omega arith)) (axis_digit j (omega arith)) ∙ none_below l x z e b h j g)
 
   -- with a for whether it anticommutes: what the words say is what the search does there
-  module _ (a : ℕ) (small : a < 2) (touch : live ≡ true → touches l e.x e.z b ≡ true) (r : Met)
-      (past : (bit_and w (bit_and sig (((2 ^ 64 - 1) - 0) / 2 ^ (63 - b))) ≡ 2 ^ b → ⊥) → r ≡ Past)
-      (hit : bit_and w (bit_and sig (((2 ^ 64 - 1) - 0) / 2 ^ (63 - b))) ≡ 2 ^ b → a ≡ 1 → r ≡ Hit)
-      (none : bit_and w (bit_and sig (((2 ^ 64 - 1) - 0) / 2 ^ (63 - b))) ≡ 2 ^ b → a ≡ 0 → r ≡ Past) where
-    met_stop : r ≡ cond (not (shared_below l x z e b) && (live && eqb a 1)) Hit Past
+  module _ (a : ℕ) (small : a < 2) (touch : live ≡ true → touches l e.x e.z b ≡ true) (r : Result Bool Corrupt)
+      (past : (bit_and w (bit_and sig (((2 ^ 64 - 1) - 0) / 2 ^ (63 - b))) ≡ 2 ^ b → ⊥) → r ≡ Ok false)
+      (hit : bit_and w (bit_and sig (((2 ^ 64 - 1) - 0) / 2 ^ (63 - b))) ≡ 2 ^ b → a ≡ 1 → r ≡ Ok true)
+      (none : bit_and w (bit_and sig (((2 ^ 64 - 1) - 0) / 2 ^ (63 - b))) ≡ 2 ^ b → a ≡ 0 → r ≡ Ok false) where
+    met_stop : r ≡ Ok (not (shared_below l x z e b) && (live && eqb a 1))
     met_stop = elim (ℕ_discrete (bit_and w (bit_and sig (((2 ^ 64 - 1) - 0) / 2 ^ (63 - b)))) (2 ^ b)) [
       | yes f ↦
           ⊎_elim
-          (λ (q : a ≡ 1). hit f q ∙ sym (seen f ∙ ap (λ (t : Bool). cond t Hit Past) (eq-eqb a 1 q)))
-          (λ (q : a ≡ 1 → ⊥). none f (omega arith) ∙ sym (seen f ∙ ap (λ (t : Bool). cond t Hit Past) (ne_eqb a 1 q)))
+          (λ (q : a ≡ 1). hit f q ∙ sym (seen f ∙ ap Ok (eq-eqb a 1 q)))
+          (λ (q : a ≡ 1 → ⊥). none f (omega arith) ∙ sym (seen f ∙ ap Ok (ne_eqb a 1 q)))
           (same? a 1)
       | no d ↦ past d ∙ sym (unseen d live refl (shared_below l x z e b) refl)
     ]
       where
-        seen : bit_and w (bit_and sig (((2 ^ 64 - 1) - 0) / 2 ^ (63 - b))) ≡ 2 ^ b → cond (not (shared_below l x z e b) && (live && eqb a 1)) Hit Past ≡ cond (eqb a 1) Hit Past
-        seen f = ap₂ (λ (p q : Bool). cond (not p && (q && eqb a 1)) Hit Past) (tested_first f) (tested_live f)
+        seen : bit_and w (bit_and sig (((2 ^ 64 - 1) - 0) / 2 ^ (63 - b))) ≡ 2 ^ b → ◌≡◌ {A = Result Bool Corrupt} (Ok (not (shared_below l x z e b) && (live && eqb a 1))) (Ok (eqb a 1))
+        seen f = ap₂ (λ (p q : Bool). Ok (not p && (q && eqb a 1))) (tested_first f) (tested_live f)
 
         unseen : (bit_and w (bit_and sig (((2 ^ 64 - 1) - 0) / 2 ^ (63 - b))) ≡ 2 ^ b → ⊥) → (p : Bool) → live ≡ p → (q : Bool) → shared_below l x z e b ≡ q
-            → cond (not (shared_below l x z e b) && (live && eqb a 1)) Hit Past ≡ Past
-        unseen d p t true h = ap (λ (q : Bool). cond (not q && (live && eqb a 1)) Hit Past) h
-        unseen d false t false h = ap₂ (λ (p q : Bool). cond (not p && (q && eqb a 1)) Hit Past) h t
+            → ◌≡◌ {A = Result Bool Corrupt} (Ok (not (shared_below l x z e b) && (live && eqb a 1))) (Ok false)
+        unseen d p t true h = ap (λ (q : Bool). Ok (not q && (live && eqb a 1))) h
+        unseen d false t false h = ap₂ (λ (p q : Bool). Ok (not p && (q && eqb a 1))) h t
         unseen d true t false h = absurd (d (first_tested t (touch t) h))
 
 -- ---- an entry of the list
@@ -303,8 +305,8 @@ module _ (s : State) (b l events : ℕ) (h : List ℕ) (base len sigs axes : ℕ
 
     -- the axis's sets and its signature; what the words say of the entry is what the search does there
     module _ (axis : List ℕ) (sig wanted this : ℕ) (is : sig ≡ signature l (of_row 0 axis).x (of_row 0 axis).z) (hb : b < 64) (one : has sig b ≡ 1)
-        (up : wanted ≡ bit_and sig (((2 ^ 64 - 1) - 0) / 2 ^ (63 - b))) (bit : this ≡ 2 ^ b) (r : Met) (m : Meets h sigs axes l events axis wanted this id r) where
-      pub entry-stops : r ≡ cond (entry s (of_row 0 axis).x (of_row 0 axis).z b id).stops Hit Past
+        (up : wanted ≡ bit_and sig (((2 ^ 64 - 1) - 0) / 2 ^ (63 - b))) (bit : this ≡ 2 ^ b) (r : Result Bool Corrupt) (m : Meets h sigs axes l events axis wanted this id r) where
+      pub entry-stops : r ≡ Ok (entry s (of_row 0 axis).x (of_row 0 axis).z b id).stops
       unfolding entry against apart_from apart
       entry-stops =
           let x : ℕ = (of_row 0 axis).x in
@@ -320,7 +322,7 @@ module _ (s : State) (b l events : ℕ) (h : List ℕ) (base len sigs axes : ℕ
           (λ d. m.apart entry_known (λ f. d (sym plain ∙ f ∙ bit)))
           (λ f a. m.hit entry_known (plain ∙ f ∙ sym bit) (same ∙ a))
           (λ f a. m.past entry_known (plain ∙ f ∙ sym bit) (same ∙ a))
-          ∙ ap (λ (k : ℕ). cond (not (shared_below k x z e b) && (live_at s.events id && eqb (apart e.x e.z x z) 1)) Hit Past) (sym ok.planes)
+          ∙ ap (λ (k : ℕ). Ok (not (shared_below k x z e b) && (live_at s.events id && eqb (apart e.x e.z x z) 1))) (sym ok.planes)
 
 -- ---- the walk
 
@@ -375,23 +377,13 @@ list_from : (s : State) (b x z after start left : ℕ) → Splits (list_at s b) 
 unfolding scalar_list
 list_from s b x z after start left m = ap (λ (t : List ℕ). walk (map (entry s x z b) t) left) (keep-Splits after start (list_at s b) m)
 
--- what a scan meets at an entry, and whether the search stops there
-abbrev rank : Met → ℕ
-rank Past = 0
-rank Hit = 1
-rank bad = 2
+-- an answer is one value alone, and none where it is an error
+same_answer : {A E : Type 0} (r : Result A E) (x y : A) → r ≡ Ok x → r ≡ Ok y → x ≡ y
+same_answer r x y e f = cc
 
-past_false : (t : Bool) → Past ≡ cond t Hit Past → t ≡ false
-past_false false e = refl
-past_false true e = let q : ◌≡◌ {A = ℕ} 0 1 = ap rank e in absurd (omega (arith, q))
-
-hit_true : (t : Bool) → Hit ≡ cond t Hit Past → t ≡ true
-hit_true true e = refl
-hit_true false e = let q : ◌≡◌ {A = ℕ} 1 0 = ap rank e in absurd (omega (arith, q))
-
-bad_stops : {A : Type 0} (t : Bool) → bad ≡ cond t Hit Past → A
-bad_stops true e = let q : ◌≡◌ {A = ℕ} 2 1 = ap rank e in absurd (omega (arith, q))
-bad_stops false e = let q : ◌≡◌ {A = ℕ} 2 0 = ap rank e in absurd (omega (arith, q))
+answer_not : {A E B : Type 0} (r : Result A E) (x : A) → IsErr r → r ≡ Ok x → B
+answer_not (Ok y) x e f = absurd (true≢false (sym e))
+answer_not (Err y) x e f = absurd cc
 
 -- up to entry i the walk went on; it goes on to `end` at most, where the allowance or the list ends
 pub record Scanning (h : List ℕ) (base len sigs axes l events : ℕ) (axis : List ℕ) (sig bit after start left end i : ℕ) : Type 0 where
@@ -433,14 +425,14 @@ module _ (h : List ℕ) (base len sigs axes l events : ℕ) (axis : List ℕ) (s
 
   module _ (i : ℕ) (m : Scanning h base len sigs axes l events axis sig bit after start left end i) where
     -- a turn: entry i is read
-    module _ (hb : bit < 64) (g : i < end) (r : Met) (wanted this : ℕ) (up : wanted ≡ bit_and sig (((2 ^ 64 - 1) - 0) / 2 ^ (63 - bit))) (one : this ≡ 2 ^ bit)
+    module _ (hb : bit < 64) (g : i < end) (r : Result Bool Corrupt) (wanted this : ℕ) (up : wanted ≡ bit_and sig (((2 ^ 64 - 1) - 0) / 2 ^ (63 - bit))) (one : this ≡ 2 ^ bit)
         (meets : Meets h sigs axes l events axis wanted this (get_or h (base + i) 0) r) where
       module _ (s : State) (ok : Scannable s bit l events h base len sigs axes) (is : sig ≡ signature l (of_row 0 axis).x (of_row 0 axis).z) (set : has sig bit ≡ 1) where
-        turn_stops : r ≡ cond (entry s (of_row 0 axis).x (of_row 0 axis).z bit (get_or (list_at s bit) i 0)).stops Hit Past
+        turn_stops : r ≡ Ok (entry s (of_row 0 axis).x (of_row 0 axis).z bit (get_or (list_at s bit) i 0)).stops
         turn_stops =
             let lt : i < len = omega (arith, m.most) in
             entry-stops s bit l events h base len sigs axes ok i (get_or h (base + i) 0) lt refl axis sig wanted this is hb set up one r meets
-            ∙ ap (λ (k : ℕ). cond (entry s (of_row 0 axis).x (of_row 0 axis).z bit k).stops Hit Past) (ok.numbers i (omega (arith, ok.long)))
+            ∙ ap (λ (k : ℕ). Ok (entry s (of_row 0 axis).x (of_row 0 axis).z bit k).stops) (ok.numbers i (omega (arith, ok.long)))
 
         turn_walk : walk (scalar_list s after (of_row 0 axis).x (of_row 0 axis).z bit) left
             ≡ walk (map (entry s (of_row 0 axis).x (of_row 0 axis).z bit) (get_or (list_at s bit) i 0 ∷ drop (suc i) (list_at s bit))) (left - (i - start))
@@ -448,7 +440,7 @@ module _ (h : List ℕ) (base len sigs axes l events : ℕ) (axis : List ℕ) (s
             let lt : i < length (list_at s bit) = omega (arith, m.most, ok.long) in
             m.walked s ok is set ∙ ap (λ (t : List ℕ). walk (map (entry s (of_row 0 axis).x (of_row 0 axis).z bit) t) (left - (i - start))) (drop-cons (list_at s bit) i 0 lt)
 
-      pub Scanning-more : r ≡ Past → Scanning h base len sigs axes l events axis sig bit after start left end (i + 1)
+      pub Scanning-more : r ≡ Ok false → Scanning h base len sigs axes l events axis sig bit after start left end (i + 1)
       Scanning-more e = record {
         order = omega (arith, m.order);
         within = omega arith;
@@ -460,23 +452,22 @@ module _ (h : List ℕ) (base len sigs axes l events : ℕ) (axis : List ℕ) (s
             let n : left - (i - start) - 1 ≡ left - (i + 1 - start) = omega (arith, m.order) in
             turn_walk s ok is set
             ∙ walk_past s (of_row 0 axis).x (of_row 0 axis).z bit (get_or (list_at s bit) i 0) (drop (suc i) (list_at s bit)) (left - (i - start)) (omega (arith, m.order, m.spent))
-            (past_false (entry s (of_row 0 axis).x (of_row 0 axis).z bit (get_or (list_at s bit) i 0)).stops (sym e ∙ turn_stops s ok is set))
+            (same_answer r (entry s (of_row 0 axis).x (of_row 0 axis).z bit (get_or (list_at s bit) i 0)).stops false (turn_stops s ok is set) e)
             ∙ ap₂ (λ (t : List ℕ) (k : ℕ). walk (map (entry s (of_row 0 axis).x (of_row 0 axis).z bit) t) k) (ap (λ (k : ℕ). drop k (list_at s bit)) (sym (add-one i))) n;
       }
 
-      pub scan_hit : r ≡ Hit → (s : State) → Scannable s bit l events h base len sigs axes → sig ≡ signature l (of_row 0 axis).x (of_row 0 axis).z → has sig bit ≡ 1
+      pub scan_hit : r ≡ Ok true → (s : State) → Scannable s bit l events h base len sigs axes → sig ≡ signature l (of_row 0 axis).x (of_row 0 axis).z → has sig bit ≡ 1
           → Blocked (record { 0 = left - (i + 1 - start) }) ≡ scan_of (walk (scalar_list s after (of_row 0 axis).x (of_row 0 axis).z bit) left)
       unfolding scan_of steps
       scan_hit e s ok is set =
           let n : left - (i - start) - 1 ≡ left - (i + 1 - start) = omega (arith, m.order) in
           sym (ap scan_of (turn_walk s ok is set
           ∙ walk_stop s (of_row 0 axis).x (of_row 0 axis).z bit (get_or (list_at s bit) i 0) (drop (suc i) (list_at s bit)) (left - (i - start)) (omega (arith, m.order, m.spent))
-          (hit_true (entry s (of_row 0 axis).x (of_row 0 axis).z bit (get_or (list_at s bit) i 0)).stops (sym e ∙ turn_stops s ok is set)))
+          (same_answer r (entry s (of_row 0 axis).x (of_row 0 axis).z bit (get_or (list_at s bit) i 0)).stops true (turn_stops s ok is set) e))
           ∙ ap (λ (k : ℕ). Blocked (steps k)) n)
 
-      pub scan_bad : r ≡ bad → (s : State) → Scannable s bit l events h base len sigs axes → sig ≡ signature l (of_row 0 axis).x (of_row 0 axis).z → has sig bit ≡ 1
-          → Bad ≡ scan_of (walk (scalar_list s after (of_row 0 axis).x (of_row 0 axis).z bit) left)
-      scan_bad e s ok is set = bad_stops (entry s (of_row 0 axis).x (of_row 0 axis).z bit (get_or (list_at s bit) i 0)).stops (sym e ∙ turn_stops s ok is set)
+      pub scan_not_bad : {A : Type 0} → IsErr r → (s : State) → Scannable s bit l events h base len sigs axes → sig ≡ signature l (of_row 0 axis).x (of_row 0 axis).z → has sig bit ≡ 1 → A
+      scan_not_bad e s ok is set = answer_not r (entry s (of_row 0 axis).x (of_row 0 axis).z bit (get_or (list_at s bit) i 0)).stops e (turn_stops s ok is set)
 
     -- the end
     module _ (g : end ≤ i) (s : State) (ok : Scannable s bit l events h base len sigs axes) (is : sig ≡ signature l (of_row 0 axis).x (of_row 0 axis).z) (set : has sig bit ≡ 1) where

@@ -1,9 +1,7 @@
 -- A list of event numbers in the words of one slice (docs/STORE.md): its two counts stand at `at`, and its entries from `base` on.
 -- Assumes nothing.
-use Rattle.std.specs.Prelude.{◌≡◌, Bool, cond, List, ℕ, ◌+◌, ◌*◌, ◌/◌, ◌%◌, ◌≤◌, ◌<◌, length, get_or, eqb, ltb}
+use Rattle.std.specs.Prelude.{◌≡◌, Bool, cond, Option, Some, None, List, ℕ, ◌+◌, ◌*◌, ◌/◌, ◌%◌, ◌≤◌, ◌<◌, length, get_or, eqb, ltb}
 use Rattle.model.specs.Pauli.{has}
-use Rattle.lists.specs.declared.places.Place.{Place}
-use Rattle.lists.specs.declared.places.Place.TheVariants.{At, Lost}
 
 -- ---- the words
 
@@ -67,6 +65,6 @@ pub record Splits (ids : List ℕ) (a r : ℕ) : Type 0 where
   pub above : (k : ℕ) → r ≤ k → k < length ids → a < get_or ids k 0
 
 -- the answer is the place of id; where the numbers rise it is not said to be lost while it stands there
-abbrev pub Sought : List ℕ → (id : ℕ) → Place → Type 0
-Sought ids id (At p) = (p < length ids) × (get_or ids p 0 ≡ id)
-Sought ids id Lost = Rises ids → (p : ℕ) → p < length ids → get_or ids p 0 ≡ id → ⊥
+abbrev pub Sought : List ℕ → (id : ℕ) → Option ℕ → Type 0
+Sought ids id (Some p) = (p < length ids) × (get_or ids p 0 ≡ id)
+Sought ids id None = Rises ids → (p : ℕ) → p < length ids → get_or ids p 0 ≡ id → ⊥

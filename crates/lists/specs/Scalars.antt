@@ -1,8 +1,7 @@
 -- A scalar list: its counts and its numbers. Assumes nothing.
-use Rattle.std.specs.Prelude.{◌≡◌, ◌⊎◌, true, false, List, [], ◌∷◌, ◌++◌, ℕ, ◌+◌, ◌≤◌, ◌<◌, length, get_or}
+use Rattle.std.specs.Prelude.{◌≡◌, ◌⊎◌, true, false, Result, Ok, IsErr, List, [], ◌∷◌, ◌++◌, ℕ, ◌+◌, ◌≤◌, ◌<◌, length, get_or}
 use Rattle.model.specs.Events.{keep}
-use Rattle.lists.specs.declared.scalar.Step.{Step}
-use Rattle.lists.specs.declared.scalar.Step.TheVariants.{At, Bad}
+use Rattle.pauli.specs.declared.corrupt.Corrupt.{Corrupt}
 use Rattle.lists.specs.Lists.{Counts, Numbers, Among, Only, is_live, Known, left}
 
 -- the words are the list ids, of which d are dead
@@ -32,16 +31,16 @@ noted h alive d ids = left 4 (d + 1) (keep (is_live h alive) ids) ids
 -- ---- the steps of a drop
 
 -- the number id at place k, where its event is live: all other words are as they were
-pub record Retained (h : List ℕ) (base k alive events id : ℕ) (r : Step) (g : List ℕ) : Type 0 where
-  pub unknown : events ≤ id → r ≡ Bad
-  pub live : id < events → is_live h alive id ≡ true → (r ≡ At (k + 1)) × (get_or g (base + k) 0 ≡ id)
-  pub dead : id < events → is_live h alive id ≡ false → (r ≡ At k) × (g ≡ h)
-  pub next : (j : ℕ) → r ≡ At j → j ≤ k + 1
+pub record Retained (h : List ℕ) (base k alive events id : ℕ) (r : Result ℕ Corrupt) (g : List ℕ) : Type 0 where
+  pub unknown : events ≤ id → IsErr r
+  pub live : id < events → is_live h alive id ≡ true → (r ≡ Ok (k + 1)) × (get_or g (base + k) 0 ≡ id)
+  pub dead : id < events → is_live h alive id ≡ false → (r ≡ Ok k) × (g ≡ h)
+  pub next : (j : ℕ) → r ≡ Ok j → j ≤ k + 1
   pub only : Only (Among (base + k) 1) h g
 
 -- the live numbers of a list of len
-pub record Dropped (h : List ℕ) (base len alive events : ℕ) (r : Step) (g : List ℕ) : Type 0 where
+pub record Dropped (h : List ℕ) (base len alive events : ℕ) (r : Result ℕ Corrupt) (g : List ℕ) : Type 0 where
   pub long : length g ≡ length h
-  pub next : (j : ℕ) → r ≡ At j → j ≤ len
+  pub next : (j : ℕ) → r ≡ Ok j → j ≤ len
   pub all : (ids : List ℕ) → length ids ≡ len → Numbers h base ids → Known events ids
-      → (r ≡ At (length (keep (is_live h alive) ids))) × Numbers g base (keep (is_live h alive) ids) × Only (Among base (length (keep (is_live h alive) ids))) h g
+      → (r ≡ Ok (length (keep (is_live h alive) ids))) × Numbers g base (keep (is_live h alive) ids) × Only (Among base (length (keep (is_live h alive) ids))) h g

@@ -1,5 +1,5 @@
 -- The allowance, and what a scan answers. What a scan meets and what it costs is `model`'s `walk` over `list_work`. Assumes nothing.
-use Rattle.std.specs.Prelude.{◌≡◌, true, cond, List, ℕ, ◌+◌, ◌-◌, ◌*◌, ◌≤◌, ◌<◌, length, get_or, ltb}
+use Rattle.std.specs.Prelude.{◌≡◌, Bool, true, false, cond, Option, Some, None, Result, Ok, IsErr, List, ℕ, ◌+◌, ◌-◌, ◌*◌, ◌≤◌, ◌<◌, length, get_or, ltb}
 use Rattle.model.specs.Events.{Event, State, plane, event_at, live_at, touches}
 use Rattle.model.specs.Search.{Walk, done, stopped, dry, list_at}
 use Rattle.std.specs.Int.Bits.{bit_and}
@@ -7,10 +7,7 @@ use Rattle.model.specs.Pauli.{apart}
 use Rattle.pauli.specs.Rows.{value_at, of_row, signature}
 use Rattle.lists.specs.Lists.{Numbers, Rises, Known}
 use Rattle.lists.specs.declared.budget.Budget.{Budget}
-use Rattle.lists.specs.declared.budget.Spent.{Spent}
-use Rattle.lists.specs.declared.budget.Spent.TheVariants.{Left, Short}
-use Rattle.lists.specs.declared.scalar.Met.{Met}
-use Rattle.lists.specs.declared.scalar.Met.TheVariants.{Past, Hit, Bad as bad}
+use Rattle.pauli.specs.declared.corrupt.Corrupt.{Corrupt}
 use Rattle.lists.specs.declared.budget.Scan.{Scan}
 use Rattle.lists.specs.declared.budget.Scan.TheVariants.{Clear, Blocked, Out}
 
@@ -18,8 +15,8 @@ unfoldable pub steps : ℕ → Budget
 steps n = record { 0 = n }
 
 -- "Spending exactly what is left succeeds. One more is 'out of steps'."
-unfoldable pub spend_of : Budget → (cost : ℕ) → Spent
-spend_of b cost = cond (ltb b.0 cost) Short (Left (steps (b.0 - cost)))
+unfoldable pub spend_of : Budget → (cost : ℕ) → Option Budget
+spend_of b cost = cond (ltb b.0 cost) None (Some (steps (b.0 - cost)))
 
 -- how a walk over the work of a scan ends
 unfoldable pub scan_of : Walk → Scan
@@ -58,10 +55,10 @@ unfoldable pub apart_from : List ℕ → (axes l id : ℕ) → List ℕ → ℕ
 apart_from h axes l id axis = apart (value_at h (axes + id * (2 * l)) l) (value_at h (axes + id * (2 * l) + l) l) (of_row 0 axis).x (of_row 0 axis).z
 
 -- what the words say of event id: it is none; or another bit than `this` is the first that it shares with the axis; or whether it anticommutes
-pub record Meets (h : List ℕ) (sigs axes l events : ℕ) (axis : List ℕ) (wanted this id : ℕ) (r : Met) : Type 0 where
-  pub unknown : events ≤ id → r ≡ bad
-  pub apart : id < events → (bit_and (get_or h (sigs + id) 0) wanted ≡ this → ⊥) → r ≡ Past
+pub record Meets (h : List ℕ) (sigs axes l events : ℕ) (axis : List ℕ) (wanted this id : ℕ) (r : Result Bool Corrupt) : Type 0 where
+  pub unknown : events ≤ id → IsErr r
+  pub apart : id < events → (bit_and (get_or h (sigs + id) 0) wanted ≡ this → ⊥) → r ≡ Ok false
   pub hit : id < events → bit_and (get_or h (sigs + id) 0) wanted ≡ this
-      → apart_from h axes l id axis ≡ 1 → r ≡ Hit
+      → apart_from h axes l id axis ≡ 1 → r ≡ Ok true
   pub past : id < events → bit_and (get_or h (sigs + id) 0) wanted ≡ this
-      → apart_from h axes l id axis ≡ 0 → r ≡ Past
+      → apart_from h axes l id axis ≡ 0 → r ≡ Ok false

@@ -3,33 +3,23 @@ ghost use Rattle.std.specs.Prelude.{◌≡◌};
 ghost use Rattle.lists.specs.Scans.{spend_of};
 
 // Steps left: a quantity apart from event numbers.
-#[derive(Clone, Copy)]
+#[derive(Clone, Copy, Debug, PartialEq, Eq)]
 pub struct Budget(pub u32);
-
-#[derive(Clone, Copy)]
-pub enum Spent {
-    Left(Budget),
-    Short,
-}
 
 impl Budget {
     // Spending exactly what is left succeeds.
-    pub fn spend(self, cost: u32) -> Spent
+    #[tactic(auto, unfolding(crate::specs::Scans::spend_of, crate::specs::Scans::steps))]
+    pub fn spend(self, cost: u32) -> Option<Budget>
         ensures { result ≡ spend_of self cost }
     {
-        let have = self.0;
-        if have < cost {
-            return Spent::Short;
-        }
-        Spent::Left(Budget(have - cost))
+        self.0.checked_sub(cost).map(Budget)
     }
 }
 
-// What a scan finds, with the steps left; or that a stored value is bad.
-#[derive(Clone, Copy)]
+// What a scan finds, with the steps left.
+#[derive(Clone, Copy, Debug, PartialEq, Eq)]
 pub enum Scan {
     Clear(Budget),
     Blocked(Budget),
     Out(Budget),
-    Bad,
 }

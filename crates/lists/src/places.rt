@@ -8,13 +8,11 @@ fn step(number: u64, after: u64, half: usize) -> usize
     ensures low { number ≤ after → result ≡ half }
     ensures high { after < number → result ≡ 0 }
 {
-    if number <= after {
-        return half;
-    }
-    0
+    if number <= after { half } else { 0 }
 }
 
-// The place of the first number past `after`, or the length, by halving.
+// The place of the first number past `after`, or the length, by halving. No `for`: each turn halves what is left. Not std's `partition_point`:
+// the first entry of a look is looked for here, and this halving tests once a turn (docs/SPEED.md).
 fn first_after(ids: &[u64], after: u64) -> usize
     ensures within { result ≤ length ids.now }
     ensures splits { Rises ids.now → Splits ids.now after result }
@@ -60,31 +58,17 @@ pub fn first_past(ids: &[u64], after: u64) -> usize
     ensures within { result ≤ length ids.now }
     ensures splits { Rises ids.now → Splits ids.now after result }
 {
-    if ids.len() == 0 {
+    if ids.is_empty() {
         return 0;
     }
     let lo = gallop(ids, after);
     lo + first_after(&ids[lo..], after)
 }
 
-// A place in a list, or that the number is not there.
-#[derive(Clone, Copy)]
-pub enum Place {
-    At(usize),
-    Lost,
-}
-
-// The place of `id`: the one before the first number past it, if `id` stands there.
-pub fn place_of(ids: &[u64], id: u64) -> Place
+// The place of `id`, where it stands there: the one before the first number past it.
+pub fn place_of(ids: &[u64], id: u64) -> Option<usize>
     ensures { Sought ids.now id result }
 {
-    let k = first_past(ids, id);
-    if k == 0 {
-        return Place::Lost;
-    }
-    let p = k - 1;
-    if ids[p] != id {
-        return Place::Lost;
-    }
-    Place::At(p)
+    let p = first_past(ids, id).checked_sub(1)?;
+    if ids[p] == id { Some(p) } else { None }
 }

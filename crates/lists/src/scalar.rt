@@ -1,6 +1,6 @@
 // A scalar list (the Rust's `ScalarList`): event numbers, rising, of which the dead stay until more than a quarter is dead. Its length and
 // its dead count stand at `at`, its numbers in `cap` words from `base` on.
-ghost use Rattle.std.specs.Prelude.{◌≡◌, true, false, List, ℕ, ◌+◌, ◌*◌, ◌≤◌, ◌<◌, length, get_or};
+ghost use Rattle.std.specs.Prelude.{◌≡◌, Ok, IsOk, IsErr, List, ℕ, ◌+◌, ◌*◌, ◌≤◌, ◌<◌, length, get_or};
 ghost use Rattle.model.specs.Pauli.{has};
 ghost use Rattle.model.specs.Events.{State, words};
 ghost use Rattle.model.specs.Search.{walk, scalar_list};
@@ -11,74 +11,74 @@ ghost use Rattle.lists.specs.Scans.{Scannable, scan_of, Meets};
 
 use super::budget::{Budget, Scan};
 use super::places::first_past;
+use pauli::corrupt::Corrupt;
 use pauli::rows::anticommutes;
 use pauli::sets::contains;
 
 // ---- recording
 
-// Appends a number. The answer is false where the list is full.
-pub fn push(h: &mut [u64], at: usize, base: usize, cap: usize, id: u64) -> bool
+// Appends a number, unless the list is full.
+pub fn push(h: &mut [u64], at: usize, base: usize, cap: usize, id: u64) -> Result<(), Corrupt>
     requires { Room h.old at base cap }
     ensures long { length h.new ≡ length h.old }
-    ensures full { cap ≤ get_or h.old at 0 → result ≡ false }
-    ensures done { (ids : List ℕ) (d : ℕ) → Scalar h.old at base cap ids d → length ids < cap → (result ≡ true) × ScalarTo h.old at base cap (pushed id ids) d h.new }
+    ensures full { cap ≤ get_or h.old at 0 → IsErr result }
+    ensures done { (ids : List ℕ) (d : ℕ) → Scalar h.old at base cap ids d → length ids < cap → IsOk result × ScalarTo h.old at base cap (pushed id ids) d h.new }
 {
     let len = h[at] as usize;
     if cap <= len {
-        return false;
+        return Err(Corrupt);
     }
     h[base + len] = id;
     h[at] = (len + 1) as u64;
-    true
+    Ok(())
 }
 
 // ---- a death
 
-// Where the next number that is kept goes; or that a stored number is bad.
-#[derive(Clone, Copy)]
-pub enum Step {
-    At(usize),
-    Bad,
-}
-
-// Keeps the number `id` at place k, where its event is live.
-fn retain(h: &mut [u64], base: usize, k: usize, alive: usize, events: usize, id: u64) -> Step
+// Keeps the number `id` at place k, where its event is live; the answer is where the next number that is kept goes.
+fn retain(
+    h: &mut [u64],
+    base: usize,
+    k: usize,
+    alive: usize,
+    events: usize,
+    id: u64,
+) -> Result<usize, Corrupt>
     requires { (base + k < length h.old) × (alive + words events ≤ base) }
     ensures { Retained h.old base k alive events id result h.new }
 {
     let e = id as usize;
     if events <= e {
-        return Step::Bad;
+        return Err(Corrupt);
     }
     if contains(&h[alive..], e) {
         h[base + k] = id;
-        return Step::At(k + 1);
+        return Ok(k + 1);
     }
-    Step::At(k)
+    Ok(k)
 }
 
 // Drops the numbers whose events are dead; the answer is how many are left.
-fn drop_dead(h: &mut [u64], base: usize, len: usize, alive: usize, events: usize) -> Step
+fn drop_dead(
+    h: &mut [u64],
+    base: usize,
+    len: usize,
+    alive: usize,
+    events: usize,
+) -> Result<usize, Corrupt>
     requires { (base + len ≤ length h.old) × (alive + words events ≤ base) }
     ensures { Dropped h.old base len alive events result h.new }
 {
-    let mut i = 0;
     let mut k = 0;
-    while i < len {
+    for i in 0..len {
         let id = h[base + i];
-        match retain(h, base, k, alive, events, id) {
-            Step::At(next) => {
-                k = next;
-                i += 1;
-            }
-            Step::Bad => return Step::Bad,
-        }
+        k = retain(h, base, k, alive, events, id)?;
     }
-    Step::At(k)
+    Ok(k)
 }
 
 // One more number of the list is dead, and its event is no longer in the set of live events at `alive`: the dead are dropped once they are
-// more than a quarter. The answer is false where a stored count or number is bad.
+// more than a quarter.
 pub fn note_dead(
     h: &mut [u64],
     at: usize,
@@ -86,44 +86,29 @@ pub fn note_dead(
     cap: usize,
     alive: usize,
     events: usize,
-) -> bool
+) -> Result<(), Corrupt>
     requires { Room h.old at base cap × (alive + words events ≤ base) }
     ensures long { length h.new ≡ length h.old }
-    ensures over { cap < get_or h.old at 0 → result ≡ false }
-    ensures all { get_or h.old at 0 ≤ get_or h.old (at + 1) 0 → result ≡ false }
-    ensures done { (ids : List ℕ) (d : ℕ) → Scalar h.old at base cap ids d → d < length ids → Known events ids → (result ≡ true) × ScalarTo h.old at base cap (noted h.old alive d ids) (still 4 (d + 1) (length ids)) h.new }
+    ensures over { cap < get_or h.old at 0 → IsErr result }
+    ensures all { get_or h.old at 0 ≤ get_or h.old (at + 1) 0 → IsErr result }
+    ensures done { (ids : List ℕ) (d : ℕ) → Scalar h.old at base cap ids d → d < length ids → Known events ids → IsOk result × ScalarTo h.old at base cap (noted h.old alive d ids) (still 4 (d + 1) (length ids)) h.new }
 {
     let len = h[at] as usize;
     let dead = h[at + 1] as usize;
-    if cap < len {
-        return false;
-    }
-    if len <= dead {
-        return false;
+    if cap < len || len <= dead {
+        return Err(Corrupt);
     }
     if 4 * (dead + 1) <= len {
         h[at + 1] = (dead + 1) as u64;
-        return true;
+        return Ok(());
     }
-    match drop_dead(h, base, len, alive, events) {
-        Step::At(k) => {
-            h[at] = k as u64;
-            h[at + 1] = 0;
-            true
-        }
-        Step::Bad => false,
-    }
+    let k = drop_dead(h, base, len, alive, events)?;
+    h[at] = k as u64;
+    h[at + 1] = 0;
+    Ok(())
 }
 
 // ---- a scan
-
-// What an entry is to a scan.
-#[derive(Clone, Copy)]
-pub enum Met {
-    Past,
-    Hit,
-    Bad,
-}
 
 // Whether the event `id`, in list `bit`, is to be tested there and anticommutes with the axis. `wanted` are the bits of the axis's signature
 // up to `bit`: the event is tested where that one, `this`, is the first that it shares. A dead event shares none.
@@ -137,22 +122,19 @@ fn meets(
     wanted: u64,
     this: u64,
     id: usize,
-) -> Met
+) -> Result<bool, Corrupt>
     requires { (sigs + events ≤ length h.now) × (axes + events * (2 * l) ≤ length h.now) × (length axis.now ≡ 2 * l) }
     ensures { Meets h.now sigs axes l events axis.now wanted this id result }
 {
     if events <= id {
-        return Met::Bad;
+        return Err(Corrupt);
     }
     if h[sigs + id] & wanted != this {
-        return Met::Past;
+        return Ok(false);
     }
     let words = 2 * l;
     let from = axes + id * words;
-    if anticommutes(&h[from..from + words], axis) {
-        return Met::Hit;
-    }
-    Met::Past
+    Ok(anticommutes(&h[from..from + words], axis))
 }
 
 // List `bit`'s entries after the event `after`, 1 step each: the allowance bounds where the walk ends.
@@ -169,9 +151,9 @@ pub fn scan(
     bit: usize,
     after: usize,
     budget: Budget,
-) -> Scan
+) -> Result<Scan, Corrupt>
     requires { (base + len ≤ length h.now) × (sigs + events ≤ length h.now) × (axes + events * (2 * l) ≤ length h.now) × (length axis.now ≡ 2 * l) × (bit < 64) }
-    ensures { (s : State) → Scannable s bit l events h.now base len sigs axes → sig ≡ signature l (of_row 0 axis.now).x (of_row 0 axis.now).z → has sig bit ≡ 1 → result ≡ scan_of (walk (scalar_list s after (of_row 0 axis.now).x (of_row 0 axis.now).z bit) budget.0) }
+    ensures { (s : State) → Scannable s bit l events h.now base len sigs axes → sig ≡ signature l (of_row 0 axis.now).x (of_row 0 axis.now).z → has sig bit ≡ 1 → result ≡ Ok (scan_of (walk (scalar_list s after (of_row 0 axis.now).x (of_row 0 axis.now).z bit) budget.0)) }
 {
     let start = first_past(&h[base..base + len], after as u64);
     let left = budget.0 as usize;
@@ -179,26 +161,14 @@ pub fn scan(
     let end = if left < rest { start + left } else { len };
     let wanted = sig & (!0u64 >> (63 - bit));
     let this = 1u64 << bit;
-    let mut i = start;
-    while i < end {
-        match meets(
-            h,
-            sigs,
-            axes,
-            l,
-            events,
-            axis,
-            wanted,
-            this,
-            h[base + i] as usize,
-        ) {
-            Met::Past => i += 1,
-            Met::Hit => return Scan::Blocked(Budget((left - (i + 1 - start)) as u32)),
-            Met::Bad => return Scan::Bad,
+    for i in start..end {
+        let id = h[base + i] as usize;
+        if meets(h, sigs, axes, l, events, axis, wanted, this, id)? {
+            return Ok(Scan::Blocked(Budget((left - (i + 1 - start)) as u32)));
         }
     }
     if left < rest {
-        return Scan::Out(Budget(0));
+        return Ok(Scan::Out(Budget(0)));
     }
-    Scan::Clear(Budget((left - rest) as u32))
+    Ok(Scan::Clear(Budget((left - rest) as u32)))
 }
