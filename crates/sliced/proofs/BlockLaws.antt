@@ -5,6 +5,7 @@ use mathlib.Core.List.{List, [], ◌∷◌, ◌++◌}
 use Prim.Native.Nat.{ℕ, ◌+◌, ◌-◌, ◌*◌, ◌/◌, ◌%◌, ◌^◌, ◌≤◌, ◌<◌}
 use native.Mathlib.Nat.{suc-mul, mul-le-mul_right}
 use native.Mathlib.Omega.{arith}
+use native.Mathlib.Decide.{dec_lt}
 use lib.Bits.{bit_and, bit_or}
 use lib.ListN.{length, get_or, set, length-set, length-append, get_or-append, get_or-eq_default}
 use lib.Seq.{get_or-set_same, get_or-set_other, get_or_at}
@@ -12,11 +13,12 @@ use Rattle.model.specs.Pauli.{has}
 use Rattle.model.specs.Events.{words}
 use Rattle.model.proofs.Digits.{has-lt, has_zero}
 use Rattle.pauli.specs.Digits.{Took}
+use Rattle.pauli.specs.Fill.{Written}
 use Rattle.pauli.proofs.Digits.{three, set_same, set_other, bit_is, clear_same, clear_other}
 use Rattle.pauli.proofs.Walk.{same?, Passed}
 use Rattle.lists.specs.Scalars.{pushed}
 use Rattle.sliced.specs.Blocks.{Entry, no_entry, fresh, dead, entry, mask_place, live_place, Blocks, Reps}
-use Rattle.sliced.specs.Steps.{Spread, Cleared, Marked, Opened, Appended, Killed}
+use Rattle.sliced.specs.Steps.{Spread, Marked, Opened, Appended, Killed}
 use Rattle.sliced.proofs.MaskLaws.{place_lt}
 
 -- a block of s words ends before the end of so many blocks
@@ -107,17 +109,25 @@ module _ (base cap n : ℕ) where
 
 -- ---- clearing and marking, turn by turn
 
--- ---- `clear`, with k words done
+-- ---- words cleared
 
-pub Cleared-none : (h : List ℕ) (at : ℕ) → Cleared h at 0 h
-Cleared-none h at = record { zeros = λ k l. absurd (omega arith); other = λ k d. refl; long = refl }
+-- count words from at on are 0 in g, and all else is as in h
+pub record Cleared (h : List ℕ) (at count : ℕ) (g : List ℕ) : Type 0 where
+  pub zeros : (k : ℕ) → k < count → get_or g (at + k) 0 ≡ 0
+  pub other : (k : ℕ) → ((i : ℕ) → i < count → k ≡ at + i → ⊥) → get_or g k 0 ≡ get_or h k 0
+  pub long : length g ≡ length h
 
-pub cleared_more : (h : List ℕ) (at k : ℕ) (g : List ℕ) → Cleared h at k g → at + k < length h → Cleared h at (k + 1) (set g (at + k) 0)
-cleared_more h at k g c l = record {
-  zeros = λ i li. ⊎_elim (λ e. ap (λ (j : ℕ). get_or (set g (at + k) 0) (at + j) 0) e ∙ get_or-set_same g (at + k) 0 0 (omega (arith, c.long)))
-      (λ d. get_or-set_other g (at + k) (at + i) 0 0 (λ e. d (omega arith)) ∙ c.zeros i (omega arith)) (same? i k);
-  other = λ i d. get_or-set_other g (at + k) i 0 0 (λ e. d k (omega arith) e) ∙ c.other i (λ j lj e. d j (omega arith) e);
-  long = length-set g (at + k) 0 ∙ c.long;
+Cleared-from : (h : List ℕ) (at count : ℕ) (g : List ℕ) → Written h at count (λ i. 0) g → Cleared h at count g
+Cleared-from h at count g w = record {
+  zeros = w.here;
+  other = λ k d. elim (dec_lt k at) [
+    | yes l ↦ w.kept k (inl l)
+    | no l ↦ elim (dec_lt k (at + count)) [
+      | yes m ↦ absurd (d (k - at) (omega arith) (omega arith))
+      | no m ↦ w.kept k (inr (omega arith))
+    ]
+  ];
+  long = w.same_length;
 }
 
 -- ---- `mark`, with the digits of w left to do
@@ -192,7 +202,10 @@ Opened-old h base cap n len d = record {
 }
 
 -- a fresh block: its masks are cleared to g, and its live word to 0
-module _ (h : List ℕ) (base cap n len : ℕ) (g : List ℕ) (room : Spread h base cap n) (l : len < cap) (even : len % 64 ≡ 0) (c : Cleared h (mask_place base cap n (len / 64)) (2 * n) g) where
+module _ (h : List ℕ) (base cap n len : ℕ) (g : List ℕ) (room : Spread h base cap n) (l : len < cap) (even : len % 64 ≡ 0) (w : Written h (mask_place base cap n (len / 64)) (2 * n) (λ i. 0) g) where
+  c : Cleared h (mask_place base cap n (len / 64)) (2 * n) g
+  c = Cleared-from h (mask_place base cap n (len / 64)) (2 * n) g w
+
   -- a word that stands apart is as it was
   fresh_other : (k : ℕ) → ((i : ℕ) → i < 2 * n → k ≡ mask_place base cap n (len / 64) + i → ⊥) → (k ≡ live_place base cap n (len / 64) → ⊥)
       → get_or (set g (live_place base cap n (len / 64)) 0) k 0 ≡ get_or h k 0

@@ -8,8 +8,6 @@ use Prim.Native.Nat.{ℕ, zero, suc, ◌+◌, ◌-◌, ◌*◌, ◌/◌, ◌%◌
 use native.Mathlib.Nat.{lt_of_le_of_lt, le_trans, le_of_suc-le-suc, not-suc-le-zero, mul-one, zero-lt-suc, pow-suc, add-mul}
 use native.Mathlib.Omega.{arith}
 use borrow.Author.Tests.{lt-ltb, le-ltb, le-leb, lt-leb, eqb-true, eqb-false}
-use denote.Enum.Declared.{tag_of}
-use types.Run.{OneOf}
 use lib.Arith.{lt-one}
 use lib.Bits.{bit_and, and_le_l, and_le_r, shifted_half, shifted_even}
 use lib.Count.{ones}
@@ -24,10 +22,9 @@ use Rattle.model.proofs.Digits.{has-lt, has_zero}
 use Rattle.model.proofs.Counts.{count_ones, count_step, count_zero}
 use Rattle.pauli.proofs.Digits.{three, has_low, has_up, has_ext, has_min, has-mod}
 use Rattle.lists.specs.declared.budget.Budget.{Budget}
-use Rattle.lists.specs.declared.budget.Spent.TheVariants.{Left, Short}
+use Rattle.std.specs.Prelude.{Some, None}
 use Rattle.lists.specs.declared.budget.Scan.{Scan}
-use Rattle.lists.specs.declared.budget.Scan.TheVariants.{Clear, Blocked, Out, Bad as bad}
-use Rattle.lists.specs.contracts.budget.Scan.{the_type}
+use Rattle.lists.specs.declared.budget.Scan.TheVariants.{Clear, Blocked, Out}
 use Rattle.lists.specs.Lists.{Rises, Splits}
 use Rattle.sliced.specs.Blocks.{Entry, no_entry, entry, entry_of, mask_place, live_place, Reps}
 use Rattle.sliced.specs.Gathered.{Has, Marks}
@@ -268,7 +265,6 @@ unfolding and_then
 after_both (Clear left) f g v e = e left
 after_both (Blocked left) f g v e = refl
 after_both (Out left) f g v e = refl
-after_both bad f g v e = refl
 
 -- nothing follows
 after_none : (r : Scan) → and_then r (λ left. Clear (steps left.0)) ≡ r
@@ -276,15 +272,13 @@ unfolding and_then steps
 after_none (Clear left) = refl
 after_none (Blocked left) = refl
 after_none (Out left) = refl
-after_none bad = refl
 
 -- an answer that is not clear is the last
-pub last_one : (r : Scan) (f : Budget → Scan) → OneOf (1 ∷ (2 ∷ (3 ∷ []))) (tag_of the_type r) → and_then r f ≡ r
+pub last_one : (r : Scan) (f : Budget → Scan) → ((left : Budget) → r ≡ Clear left → ⊥) → and_then r f ≡ r
 unfolding and_then
-last_one (Clear left) f k = absurd (⊎_elim (λ (e : 0 ≡ 1). omega arith) (⊎_elim (λ (e : 0 ≡ 2). omega arith) (λ (e : 0 ≡ 3). omega arith)) k)
+last_one (Clear left) f k = absurd (k left refl)
 last_one (Blocked left) f k = refl
 last_one (Out left) f k = refl
-last_one bad f k = refl
 
 module _ (w : Work) (ws : List Work) (test : ℕ) (free : test ≡ 0 → w.stops ≡ false) (hit : (test ≡ 0 → ⊥) → w.stops ≡ true) where
   abbrev on : Budget → Scan
@@ -296,7 +290,7 @@ module _ (w : Work) (ws : List Work) (test : ℕ) (free : test ≡ 0 → w.stops
   walk_met m false e = ap (λ (x : Bool). scan_of (cond x (stopped w.id m) (walk ws m))) (sym (hit (eqb-false test 0 e)))
 
   walk-paid : (left : Budget) (short : Bool)
-      → and_then (paid test left (cond short Short (Left (steps (left.0 - w.cost))))) on ≡ scan_of (cond short (dry left.0) (cond w.stops (stopped w.id (left.0 - w.cost)) (walk ws (left.0 - w.cost))))
+      → and_then (paid test left (cond short None (Some (steps (left.0 - w.cost))))) on ≡ scan_of (cond short (dry left.0) (cond w.stops (stopped w.id (left.0 - w.cost)) (walk ws (left.0 - w.cost))))
   unfolding paid and_then scan_of steps
   walk-paid left true = refl
   walk-paid left false = walk_met (left.0 - w.cost) (eqb test 0) refl
@@ -375,7 +369,7 @@ module _ (h : List ℕ) (base cap n len after ax az start : ℕ) (budget : Budge
 
   module _ (b : ℕ) (a : Scan) (rest : Remains h base cap n len after ax az budget.0 b a) where
     -- an answer that is not clear is the scan's, and any answer is once no block is left
-    pub turn_last : OneOf (1 ∷ (2 ∷ (3 ∷ []))) (tag_of the_type a) → Answers h base cap n len after ax az budget.0 a
+    pub turn_last : ((left : Budget) → a ≡ Clear left → ⊥) → Answers h base cap n len after ax az budget.0 a
     turn_last k s q e r rise = sym (last_one a _ k) ∙ (rest s q e r rise).2
 
     pub turn_end : words len ≤ b → Answers h base cap n len after ax az budget.0 a

@@ -1,21 +1,24 @@
 -- Exclusive ors over the set digits of a word, and what their digits are. Assumes nothing.
-use mathlib.Core.Path.{◌≡◌, refl, sym, ap, ap₂, ◌∙◌}
+use mathlib.Core.Path.{◌≡◌, refl, sym, ap, ap₂, ◌∙◌, subst}
 use mathlib.Core.Logic.{⊎_elim}
 use mathlib.Core.List.{List}
 use Prim.Native.Nat.{ℕ, zero, suc, ◌+◌, ◌*◌, ◌/◌, ◌%◌, ◌^◌, ◌≤◌, ◌<◌, min}
-use native.Mathlib.Nat.{mod-lt, zero-lt-suc, not-suc-le-zero, le_refl, mod-eq_of_lt, lt_of_le_of_lt}
+use Rattle.std.specs.Prelude.{replicate}
+use Rattle.std.proofs.lemmas.List.{length-replicate, get_or-replicate}
+use native.Mathlib.Nat.{suc-mul, mul-le-mul_right, mod-lt, zero-lt-suc, not-suc-le-zero, le_refl, mod-eq_of_lt, lt_of_le_of_lt}
 use native.Mathlib.Numerals.{one-add}
 use native.Mathlib.Omega.{arith}
 use lib.Arith.{lt-one}
 use lib.Pow.{pow_pos, mod-pow-add}
 use lib.Bits.{bit_and, bit_xor, xor_comm, xor_zero_r, and_le_l, and_comm}
-use lib.ListN.{get_or}
+use lib.ListN.{length, get_or, set, length-set}
+use lib.Seq.{get_or-set_same, get_or-set_other}
 use Rattle.model.specs.Pauli.{has, apart, count, count_in}
 use Rattle.model.proofs.Digits.{has-lt, has-xor, has_zero}
 use Rattle.model.proofs.Counts.{xor_assoc, count_cat}
 use Rattle.pauli.specs.Digits.{Took}
 use Rattle.pauli.proofs.Digits.{three, has_min, has_past}
-use Rattle.pauli.proofs.Walk.{same?}
+use Rattle.pauli.proofs.Walk.{same?, Took-less}
 use Rattle.sliced.specs.Gathered.{pick, over, mask, gathered, Marks}
 
 -- ---- one set digit taken off
@@ -60,6 +63,57 @@ gather_turn masks at n odd acc w p v i e t o l =
 pub gather_end : (masks : List ℕ) (at n odd acc w : ℕ) → w ≡ 0 → bit_xor acc (gathered masks at n odd w) ≡ acc
 gather_end masks at n odd acc w e = ap (λ (x : ℕ). bit_xor acc (gathered masks at n odd x)) e ∙ ap (bit_xor acc) (over_zero n (mask masks at odd)) ∙ xor_zero_r acc
 
+-- ---- a word for each of B blocks, whose masks stand side by side
+
+-- each word mixed with what is gathered over the digits w left to do is the whole
+pub record Gathering (masks : List ℕ) (n odd q B w : ℕ) (acc : List ℕ) : Type 0 where
+  pub long : length acc ≡ B
+  pub less : w ≤ q
+  pub rest : (k : ℕ) → k < B → bit_xor (get_or acc k 0) (gathered masks (k * (2 * n)) n odd w) ≡ gathered masks (k * (2 * n)) n odd q
+
+-- the first b of B words are mixed with those of f
+pub record Mixed (f : ℕ → ℕ) (B b : ℕ) (s t : List ℕ) : Type 0 where
+  pub long : length t ≡ B
+  pub done : (k : ℕ) → k < b → get_or t k 0 ≡ bit_xor (get_or s k 0) (f k)
+  pub left : (k : ℕ) → b ≤ k → get_or t k 0 ≡ get_or s k 0
+
+pub Mixed-none : (f : ℕ → ℕ) (B : ℕ) (s : List ℕ) → length s ≡ B → Mixed f B 0 s s
+Mixed-none f B s e = record { long = e; done = λ k l. absurd (omega arith); left = λ k l. refl }
+
+pub Mixed-more : (f : ℕ → ℕ) (B b : ℕ) (s t : List ℕ) → Mixed f B b s t → b < B → Mixed f B (b + 1) s (set t b (bit_xor (get_or t b 0) (f b)))
+Mixed-more f B b s t m l = record {
+  long = length-set t b (bit_xor (get_or t b 0) (f b)) ∙ m.long;
+  done = λ k lk. ⊎_elim
+      (λ (e : k ≡ b). ap (λ (j : ℕ). get_or (set t b (bit_xor (get_or t b 0) (f b))) j 0) e ∙ get_or-set_same t b (bit_xor (get_or t b 0) (f b)) 0 (omega (arith, m.long)) ∙ ap (λ (x : ℕ). bit_xor x (f b)) (m.left b (le_refl b)) ∙ ap (λ (j : ℕ). bit_xor (get_or s j 0) (f j)) (sym e))
+      (λ (d : k ≡ b → ⊥). get_or-set_other t b k (bit_xor (get_or t b 0) (f b)) 0 d ∙ m.done k (omega arith))
+      (same? k b);
+  left = λ k lk. get_or-set_other t b k (bit_xor (get_or t b 0) (f b)) 0 (λ e. omega arith) ∙ m.left k (omega arith);
+}
+
+-- a set digit taken off, once each word is mixed with its mask
+pub Gathering-more : (masks : List ℕ) (n odd q B w p v b : ℕ) (s t : List ℕ) → B ≤ b → Took w p v → has w p ≡ 1 → p < n → Gathering masks n odd q B w s
+    → Mixed (λ k. get_or masks (k * (2 * n) + (2 * p + odd)) 0) B b s t → Gathering masks n odd q B v t
+Gathering-more masks n odd q B w p v b s t e o h l g m = record {
+  long = m.long;
+  less = omega (arith, g.less, Took-less w p v o);
+  rest = λ k lk.
+      ap (λ (x : ℕ). bit_xor x (gathered masks (k * (2 * n)) n odd v)) (m.done k (omega arith))
+      ∙ gather_turn masks (k * (2 * n)) n odd (get_or s k 0) w p v (k * (2 * n) + (2 * p + odd)) refl o h l ∙ g.rest k lk;
+}
+
+pub Gathering-none : (masks : List ℕ) (n odd q B w : ℕ) → w ≡ q → Gathering masks n odd q B w (replicate B 0)
+Gathering-none masks n odd q B w e = record {
+  long = length-replicate B 0;
+  less = omega arith;
+  rest = λ k l.
+      ap₂ (λ (x v : ℕ). bit_xor x (gathered masks (k * (2 * n)) n odd v)) (get_or-replicate B k 0 0 l) e
+      ∙ xor_comm 0 (gathered masks (k * (2 * n)) n odd q) ∙ xor_zero_r (gathered masks (k * (2 * n)) n odd q);
+}
+
+-- where a mask of one of B blocks stands
+pub mask_lt : (B b n p odd : ℕ) → b < B → p < n → odd < 2 → b * (2 * n) + (2 * p + odd) < B * (2 * n)
+mask_lt B b n p odd lb lp lo = omega (arith, suc-mul b (2 * n), mul-le-mul_right (2 * n) lb)
+
 -- ---- digits of such an exclusive or: the parity of the common digits
 
 count_bit : (d : ℕ) → d < 2 → count d ≡ d
@@ -103,6 +157,14 @@ marks masks at n ax az gx gz hx hz ex ez i x z en =
     ∙ ap₂ (λ (a b : ℕ). (a + b) % 2) (has-over_all n (mask masks at 1) ax z i hx en.zs) (has-over_all n (mask masks at 0) az x i hz en.xs)
     ∙ ap₂ (λ (a b : ℕ). (count a % 2 + count b % 2) % 2) (and_comm ax z) (and_comm az x)
     ∙ omega arith
+
+-- both halves of each of B blocks, mixed
+pub mixed_marks : (masks : List ℕ) (n ax az B b e : ℕ) (xs zs ws : List ℕ) → ax < 2 ^ n → az < 2 ^ n → b < B → B ≤ e
+    → ((k : ℕ) → k < B → get_or xs k 0 ≡ gathered masks (k * (2 * n)) n 1 ax) → ((k : ℕ) → k < B → get_or zs k 0 ≡ gathered masks (k * (2 * n)) n 0 az)
+    → Mixed (λ k. get_or xs k 0) B e zs ws → Marks masks (b * (2 * n)) n ax az (get_or ws b 0)
+mixed_marks masks n ax az B b e xs zs ws hx hz lb le gx gz m =
+    subst (Marks masks (b * (2 * n)) n ax az) (xor_comm (get_or xs b 0) (get_or zs b 0) ∙ sym (m.done b (omega arith)))
+    (marks masks (b * (2 * n)) n ax az (get_or xs b 0) (get_or zs b 0) hx hz (gx b lb) (gz b lb))
 
 -- a set digit of a word below 2 ^ k is below k
 pub place_lt : (k w p : ℕ) → w < 2 ^ k → has w p ≡ 1 → p < k

@@ -19,10 +19,11 @@ use Rattle.model.proofs.Digits.{has_zero}
 use Rattle.pauli.specs.Sets.{member}
 use Rattle.pauli.proofs.Walk.{same?}
 use Rattle.pauli.proofs.Digits.{has_not}
-use Rattle.sliced.specs.declared.sliced.Next.{Next}
-use Rattle.sliced.specs.declared.sliced.Next.TheVariants.{At, Bad}
+use Rattle.std.specs.Prelude.{Result, Ok, Err, IsErr}
+use Rattle.pauli.specs.declared.corrupt.Corrupt.{Corrupt}
 use Rattle.lists.specs.Lists.{Only, is_live}
 use Rattle.lists.specs.Scalars.{pushed}
+use Rattle.lists.proofs.ScalarLaws.{same_Ok, err_not}
 use Rattle.sliced.specs.Blocks.{Entry, no_entry, fresh, entry, live_place, Reps, UsedBlocks, Source, kept}
 use Rattle.sliced.specs.Steps.{Appended, Stepped, Settled, Rebuilt}
 use Rattle.sliced.proofs.BlockLaws.{block_end}
@@ -83,12 +84,6 @@ not_later base cap n k j l lc (inr (inr u)) = omega (arith, u.0)
 
 -- ---- one entry
 
-bad_At : (j : ℕ) → Bad ≡ At j → ⊥
-bad_At j e = let z : ◌≡◌ {A = ℕ} 0 1 = cc in omega arith
-
-pub at_same : (i j : ℕ) → At i ≡ At j → i ≡ j
-at_same i j e = cc
-
 or_left : (x z : ℕ) → x ≤ bit_or x z
 or_left x z = omega (arith, or_add_and x z, and_le_r x z)
 
@@ -106,41 +101,41 @@ pub small_z : (x z n : ℕ) → bit_or x z / 2 ^ n ≡ 0 → z < 2 ^ n
 small_z x z n e = omega (arith, small (bit_or x z) n e, or_right x z)
 
 module _ (h : List ℕ) (base cap n k alive axes events id : ℕ) where
-  pub Stepped-unknown : events ≤ id → Stepped h base cap n k alive axes events id Bad h
+  pub Stepped-unknown : events ≤ id → Stepped h base cap n k alive axes events id (Err (record {})) h
   Stepped-unknown l = record {
     unknown = λ a. refl;
     dead = λ a b. absurd (omega arith);
     live = λ a b c d. absurd (omega arith);
-    next = λ j e. absurd (bad_At j e);
+    next = λ j e. absurd cc;
     long = refl;
   }
 
   pub Stepped-wide : id < events → is_live h alive id ≡ true → (bit_or (get_or h (axes + 2 * id) 0) (get_or h (axes + (2 * id + 1)) 0) / 2 ^ n ≡ 0 → ⊥)
-      → Stepped h base cap n k alive axes events id Bad h
+      → Stepped h base cap n k alive axes events id (Err (record {})) h
   Stepped-wide l o w = record {
     unknown = λ a. refl;
     dead = λ a b. absurd (true≢false (sym o ∙ b));
     live = λ a b c d. absurd (w (div-eq_of_lt (or_lt n (get_or h (axes + 2 * id) 0) (get_or h (axes + (2 * id + 1)) 0) c d)));
-    next = λ j e. absurd (bad_At j e);
+    next = λ j e. absurd cc;
     long = refl;
   }
 
-  pub Stepped-dead : id < events → is_live h alive id ≡ false → Stepped h base cap n k alive axes events id (At k) h
+  pub Stepped-dead : id < events → is_live h alive id ≡ false → Stepped h base cap n k alive axes events id (Ok k) h
   Stepped-dead l z = record {
     unknown = λ a. absurd (omega arith);
     dead = λ a b. (refl, refl);
     live = λ a b c d. absurd (true≢false (sym b ∙ z));
-    next = λ j e. omega (arith, at_same k j e);
+    next = λ j e. omega (arith, same_Ok k j e);
     long = refl;
   }
 
   pub Stepped-live : (g : List ℕ) → id < events → is_live h alive id ≡ true
-      → Appended h base cap n k (fresh id (get_or h (axes + 2 * id) 0) (get_or h (axes + (2 * id + 1)) 0)) g → Stepped h base cap n k alive axes events id (At (k + 1)) g
+      → Appended h base cap n k (fresh id (get_or h (axes + 2 * id) 0) (get_or h (axes + (2 * id + 1)) 0)) g → Stepped h base cap n k alive axes events id (Ok (k + 1)) g
   Stepped-live g l o p = record {
     unknown = λ a. absurd (omega arith);
     dead = λ a b. absurd (true≢false (sym o ∙ b));
     live = λ a b c d. (refl, p);
-    next = λ i e. omega (arith, at_same (k + 1) i e);
+    next = λ i e. omega (arith, same_Ok (k + 1) i e);
     long = p.long;
   }
 
@@ -299,10 +294,10 @@ module _ (h₀ : List ℕ) (base cap n len alive axes events : ℕ) (m : List En
       same = ap (kept (is_live h₀ alive)) taken ∙ kept_keep (is_live h₀ alive) (take i m) (entry m i) o
 
   -- an entry with its number at hand is kept or dropped
-  turn : (id : ℕ) (r : Next) (g : List ℕ) → id ≡ get_or h (base + i) 0 → Stepped h base cap n k alive axes events id r g → (j : ℕ) × (r ≡ At j) × Building h₀ base cap n alive m (i + 1) j g
+  turn : (id : ℕ) (r : Result ℕ Corrupt) (g : List ℕ) → id ≡ get_or h (base + i) 0 → Stepped h base cap n k alive axes events id r g → (j : ℕ) × (r ≡ Ok j) × Building h₀ base cap n alive m (i + 1) j g
   turn id r g q s = at_entry (subst (λ (v : ℕ). Stepped h base cap n k alive axes events v r g) (q ∙ same_id) s)
     where
-      at_entry : Stepped h base cap n k alive axes events (entry m i).id r g → (j : ℕ) × (r ≡ At j) × Building h₀ base cap n alive m (i + 1) j g
+      at_entry : Stepped h base cap n k alive axes events (entry m i).id r g → (j : ℕ) × (r ≡ Ok j) × Building h₀ base cap n alive m (i + 1) j g
       at_entry t =
           ⊎_elim
           (λ o. let d = t.live (src.known i here) (same_live ∙ o) (subst (λ (x : ℕ). x < 2 ^ n) (sym same_x) (src.small_x i here)) (subst (λ (x : ℕ). x < 2 ^ n) (sym same_z) (src.small_z i here)) in (
@@ -316,13 +311,13 @@ module _ (h₀ : List ℕ) (base cap n len alive axes events : ℕ) (m : List En
           (k, d.0, subst (λ (l : List ℕ). Building h₀ base cap n alive m (i + 1) k l) (sym d.1) (dropped z)))
           (is? (is_live h₀ alive (entry m i).id))
 
-  pub turn_not_bad : (id : ℕ) (g : List ℕ) (r : Next) → id ≡ get_or h (base + i) 0 → Stepped h base cap n k alive axes events id r g → r ≡ Bad → ⊥
-  turn_not_bad id g r q s e = let t = turn id r g q s in bad_At t.0 (sym e ∙ t.1)
+  pub turn_not_bad : (id : ℕ) (g : List ℕ) (r : Result ℕ Corrupt) → id ≡ get_or h (base + i) 0 → Stepped h base cap n k alive axes events id r g → IsErr r → ⊥
+  turn_not_bad id g r q s e = let t = turn id r g q s in err_not r t.0 e t.1
 
-  pub turn_at : (id : ℕ) (g : List ℕ) (r : Next) (j : ℕ) → id ≡ get_or h (base + i) 0 → Stepped h base cap n k alive axes events id r g → r ≡ At j → Building h₀ base cap n alive m (i + 1) j g
+  pub turn_at : (id : ℕ) (g : List ℕ) (r : Result ℕ Corrupt) (j : ℕ) → id ≡ get_or h (base + i) 0 → Stepped h base cap n k alive axes events id r g → r ≡ Ok j → Building h₀ base cap n alive m (i + 1) j g
   turn_at id g r j q s e =
       let t = turn id r g q s in
-      subst (λ (v : ℕ). Building h₀ base cap n alive m (i + 1) v g) (at_same t.0 j (sym t.1 ∙ e)) t.2
+      subst (λ (v : ℕ). Building h₀ base cap n alive m (i + 1) v g) (same_Ok t.0 j (sym t.1 ∙ e)) t.2
 
 -- ---- the whole
 
@@ -332,15 +327,15 @@ Built h₀ base cap n len alive axes events i k h =
     (m : List Entry) → length m ≡ len → Reps h₀ base cap n m → Source h₀ n axes events m → Building h₀ base cap n alive m i k h
 
 pub rebuilt : (h₀ : List ℕ) (base cap n len alive axes events i k : ℕ) (h : List ℕ) → length h ≡ length h₀ → len ≤ i → k ≤ len → Built h₀ base cap n len alive axes events i k h
-    → Rebuilt h₀ base cap n len alive axes events (At k) h
+    → Rebuilt h₀ base cap n len alive axes events (Ok k) h
 rebuilt h₀ base cap n len alive axes events i k h same l lk b = record {
   long = same;
-  next = λ j e. omega (arith, at_same k j e);
+  next = λ j e. omega (arith, same_Ok k j e);
   all = λ m e held src.
       let st : Building h₀ base cap n alive m i k h = b m e held src in
       let whole : take i m ≡ m = take_all i m (omega arith) in
       let n_kept : length (kept (is_live h₀ alive) m) ≡ k = ap (λ (l : List Entry). length (kept (is_live h₀ alive) l)) (sym whole) ∙ st.count in (
-        ap At (sym n_kept),
+        ap Ok (sym n_kept),
         subst (λ (l : List Entry). Reps h base cap n (kept (is_live h₀ alive) l)) whole st.reps,
         subst (λ (v : ℕ). Only (UsedBlocks base cap n v) h₀ h) (sym n_kept) st.only,
       );
@@ -349,10 +344,10 @@ rebuilt h₀ base cap n len alive axes events i k h same l lk b = record {
 -- a step that answers bad: then m cannot be
 pub Rebuilt-bad : (h₀ : List ℕ) (base cap n len alive axes events i k : ℕ) (h : List ℕ) → Built h₀ base cap n len alive axes events i k h → i < len → k ≤ i → len ≤ cap
     → alive + words events ≤ base → axes + 2 * events ≤ base → length h ≡ length h₀
-    → (id : ℕ) (g : List ℕ) (r : Next) → id ≡ get_or h (base + i) 0 → Stepped h base cap n k alive axes events id r g → r ≡ Bad
-    → Rebuilt h₀ base cap n len alive axes events Bad g
-Rebuilt-bad h₀ base cap n len alive axes events i k h b li lk lc sa ra same id g r q s e = record {
+    → (id : ℕ) (g : List ℕ) (r : Result ℕ Corrupt) → id ≡ get_or h (base + i) 0 → Stepped h base cap n k alive axes events id r g → IsErr r
+    → (a : Result ℕ Corrupt) → IsErr a → Rebuilt h₀ base cap n len alive axes events a g
+Rebuilt-bad h₀ base cap n len alive axes events i k h b li lk lc sa ra same id g r q s e a f = record {
   long = s.long ∙ same;
-  next = λ j z. absurd (bad_At j z);
+  next = λ j z. err_not a j f z;
   all = λ m em held src. absurd (turn_not_bad h₀ base cap n len alive axes events m i k h em held src (b m em held src) li lk lc sa ra id g r q s e);
 }

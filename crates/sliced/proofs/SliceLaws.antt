@@ -11,15 +11,15 @@ use lib.Seq.{get_or-set_same, get_or-set_other}
 use Rattle.model.specs.Pauli.{has}
 use Rattle.model.specs.Events.{words}
 use Rattle.pauli.proofs.Digits.{three}
-use Rattle.sliced.specs.declared.sliced.Next.{Next}
-use Rattle.sliced.specs.declared.sliced.Next.TheVariants.{At, Bad}
-use Rattle.lists.specs.declared.places.Place.{Place}
-use Rattle.lists.specs.declared.places.Place.TheVariants.{At as Stands, Lost}
+use Rattle.std.specs.Prelude.{Result, Ok, Err, IsErr}
+use Rattle.pauli.specs.declared.corrupt.Corrupt.{Corrupt}
+use Rattle.std.specs.Prelude.{Option, Some, None, is_none}
 use Rattle.lists.specs.Lists.{Counts, Among, Only, is_live, drops_at, left, still, Rises, Sought}
 use Rattle.lists.specs.Scalars.{pushed}
+use Rattle.lists.proofs.ScalarLaws.{same_Ok, err_not}
 use Rattle.sliced.specs.Blocks.{Entry, dead, entry, mask_place, live_place, sliced_room, Reps, Sliced, SlicedTo, UsedBlocks, Source, RisingIds, kept, killed_at}
 use Rattle.sliced.specs.Steps.{Appended, Killed, Rebuilt}
-use Rattle.sliced.proofs.RebuildLaws.{part_get, part_length, Appended-Only, not_before, at_same}
+use Rattle.sliced.proofs.RebuildLaws.{part_get, part_length, Appended-Only, not_before}
 
 -- ---- words before the list
 
@@ -87,10 +87,10 @@ part_Rises h base cap n m len fits long r rise i j l lj =
     omega (arith, a, b, rise i j l (omega arith))
 
 -- a place that is found is one of the list's
-pub found_in : (h : List ℕ) (base len id p : ℕ) (r : Place) → base + len ≤ length h → Sought (take (base + len - base) (drop base h)) id r → r ≡ Stands p → p < len
+pub found_in : (h : List ℕ) (base len id p : ℕ) (r : Option ℕ) → base + len ≤ length h → Sought (take (base + len - base) (drop base h)) id r → r ≡ Some p → p < len
 found_in h base len id p r fits f e =
     let at_p : (p < length (take (base + len - base) (drop base h))) × (get_or (take (base + len - base) (drop base h)) p 0 ≡ id) =
-    subst (λ (v : Place). Sought (take (base + len - base) (drop base h)) id v) e f in
+    subst (λ (v : Option ℕ). Sought (take (base + len - base) (drop base h)) id v) e f in
     omega (arith, at_p.0, part_length h base len fits)
 
 -- two places of one number are the same
@@ -107,18 +107,18 @@ module _ (h : List ℕ) (at base cap n : ℕ) (alive axes events : ℕ) (m : Lis
   deads = sym s.counts.dead ∙ qd
 
   -- what is found is the place
-  pub Found-is : (id p : ℕ) (r : Place) → len ≤ cap → Sought (take (base + len - base) (drop base h)) id r → r ≡ Stands p → RisingIds m → pos < length m → (entry m pos).id ≡ id → p ≡ pos
+  pub Found-is : (id p : ℕ) (r : Option ℕ) → len ≤ cap → Sought (take (base + len - base) (drop base h)) id r → r ≡ Some p → RisingIds m → pos < length m → (entry m pos).id ≡ id → p ≡ pos
   Found-is id p r lc f e rise lp q =
       let at_p : (p < length (take (base + len - base) (drop base h))) × (get_or (take (base + len - base) (drop base h)) p 0 ≡ id) =
-      subst (λ (v : Place). Sought (take (base + len - base) (drop base h)) id v) e f in
+      subst (λ (v : Option ℕ). Sought (take (base + len - base) (drop base h)) id v) e f in
       let lm : length (take (base + len - base) (drop base h)) ≡ len = part_length h base len (omega arith) in
       let lq : p < len = omega (arith, at_p.0) in
       rising_same m p pos rise (omega (arith, long)) lp (sym (s.reps.ids p (omega (arith, long))) ∙ sym (part_get h base len p lq) ∙ at_p.1 ∙ sym q)
 
-  pub not_lost : (id : ℕ) (r : Place) → len ≤ cap → Sought (take (base + len - base) (drop base h)) id r → r ≡ Lost → RisingIds m → pos < length m → (entry m pos).id ≡ id → ⊥
+  pub not_lost : (id : ℕ) (r : Option ℕ) → len ≤ cap → Sought (take (base + len - base) (drop base h)) id r → r ≡ None → RisingIds m → pos < length m → (entry m pos).id ≡ id → ⊥
   not_lost id r lc f e rise lp q =
       let none_at : Rises (take (base + len - base) (drop base h)) → (p : ℕ) → p < length (take (base + len - base) (drop base h)) → get_or (take (base + len - base) (drop base h)) p 0 ≡ id → ⊥ =
-      subst (λ (v : Place). Sought (take (base + len - base) (drop base h)) id v) e f in
+      subst (λ (v : Option ℕ). Sought (take (base + len - base) (drop base h)) id v) e f in
       let lm : length (take (base + len - base) (drop base h)) ≡ len = part_length h base len (omega arith) in
       none_at (part_Rises h base cap n m len (omega arith) long s.reps rise) pos (omega (arith, long)) (part_get h base len pos (omega (arith, long)) ∙ s.reps.ids pos lp ∙ q)
 
@@ -148,7 +148,7 @@ module _ (h : List ℕ) (at base cap n : ℕ) (alive axes events : ℕ) (m : Lis
       })
       (kp.reps m lp s.reps)))
 
-  pub Rebuilt-to : (r : Next) (j : ℕ) (g : List ℕ) → len < 2 * (dd + 1) → r ≡ At j → Source h n axes events m → Rebuilt h base cap n len alive axes events r g
+  pub Rebuilt-to : (r : Result ℕ Corrupt) (j : ℕ) (g : List ℕ) → len < 2 * (dd + 1) → r ≡ Ok j → Source h n axes events m → Rebuilt h base cap n len alive axes events r g
       → SlicedTo h at base cap n (killed_at h alive d pos m) (still 2 (d + 1) (length m)) (set (set g at j) (at + 1) 0)
   unfolding killed_at left still drops_at
   Rebuilt-to r j g many e src b =
@@ -160,7 +160,7 @@ module _ (h : List ℕ) (at base cap n : ℕ) (alive axes events : ℕ) (m : Lis
       ∙ ap (λ (b : Bool). cond b (kept (is_live h alive) m) (set m pos (dead (entry m pos)))) yes in
       let none_dead : still 2 (d + 1) (length m) ≡ 0 = ap (λ (b : Bool). cond b 0 (d + 1)) yes in
       let a = b.all m long s.reps src in
-      let count : j ≡ length (kept (is_live h alive) m) = at_same j (length (kept (is_live h alive) m)) (sym e ∙ a.0) in
+      let count : j ≡ length (kept (is_live h alive) m) = same_Ok j (length (kept (is_live h alive) m)) (sym e ∙ a.0) in
       subst (λ (t : List Entry). SlicedTo h at base cap n t (still 2 (d + 1) (length m)) (set (set g at j) (at + 1) 0)) (sym to)
       (subst (λ (v : ℕ). SlicedTo h at base cap n (kept (is_live h alive) m) v (set (set g at j) (at + 1) 0)) (sym none_dead)
       (sliced_to h g (set (set g at j) (at + 1) 0) at base cap n (kept (is_live h alive) m) 0 l a.2
@@ -171,8 +171,5 @@ module _ (h : List ℕ) (at base cap n : ℕ) (alive axes events : ℕ) (m : Lis
       })
       a.1))
 
-  pub Rebuilt-not_bad : (r : Next) (g : List ℕ) → r ≡ Bad → Source h n axes events m → Rebuilt h base cap n len alive axes events r g → ⊥
-  Rebuilt-not_bad r g e src b =
-      let a = b.all m long s.reps src in
-      let w : Bad ≡ At (length (kept (is_live h alive) m)) = sym e ∙ a.0 in
-      let z : ◌≡◌ {A = ℕ} 0 1 = cc in omega arith
+  pub Rebuilt-not_bad : {A : Type 0} → (r : Result ℕ Corrupt) (g : List ℕ) → IsErr r → Source h n axes events m → Rebuilt h base cap n len alive axes events r g → A
+  Rebuilt-not_bad r g e src b = err_not r (length (kept (is_live h alive) m)) e (b.all m long s.reps src).0

@@ -1,15 +1,12 @@
 -- What the steps of the work on a sliced list do to its words. Assumes nothing.
-use Rattle.std.specs.Prelude.{◌≡◌, true, false, cond, List, ℕ, ◌+◌, ◌-◌, ◌*◌, ◌/◌, ◌^◌, ◌≤◌, ◌<◌, eqb, length, get_or, set}
+use Rattle.std.specs.Prelude.{◌≡◌, true, false, cond, Option, Some, None, Result, Ok, IsErr, List, ℕ, ◌+◌, ◌-◌, ◌*◌, ◌/◌, ◌^◌, ◌≤◌, ◌<◌, eqb, length, get_or, set}
 use Rattle.std.specs.Int.Bits.{bit_and, bit_or}
 use Rattle.std.specs.Int.Count.{ones}
 use Rattle.model.specs.Pauli.{has}
-use Rattle.sliced.specs.declared.sliced.Next.{Next}
-use Rattle.sliced.specs.declared.sliced.Next.TheVariants.{At, Bad}
+use Rattle.pauli.specs.declared.corrupt.Corrupt.{Corrupt}
 use Rattle.lists.specs.declared.budget.Budget.{Budget}
-use Rattle.lists.specs.declared.budget.Spent.{Spent}
-use Rattle.lists.specs.declared.budget.Spent.TheVariants.{Left, Short}
 use Rattle.lists.specs.declared.budget.Scan.{Scan}
-use Rattle.lists.specs.declared.budget.Scan.TheVariants.{Clear, Blocked, Out, Bad as bad}
+use Rattle.lists.specs.declared.budget.Scan.TheVariants.{Clear, Blocked, Out}
 use Rattle.lists.specs.Lists.{Only, is_live}
 use Rattle.lists.specs.Scalars.{pushed}
 use Rattle.lists.specs.Scans.{spend_of}
@@ -19,12 +16,6 @@ use Rattle.sliced.specs.Blocks.{Entry, entry, fresh, dead, kept, mask_place, liv
 pub record Spread (h : List ℕ) (base cap n : ℕ) : Type 0 where
   pub few : n ≤ 32
   pub fits : base + sliced_room cap n ≤ length h
-
--- count words from at on are 0 in g, and all else is as in h
-pub record Cleared (h : List ℕ) (at count : ℕ) (g : List ℕ) : Type 0 where
-  pub zeros : (k : ℕ) → k < count → get_or g (at + k) 0 ≡ 0
-  pub other : (k : ℕ) → ((i : ℕ) → i < count → k ≡ at + i → ⊥) → get_or g k 0 ≡ get_or h k 0
-  pub long : length g ≡ length h
 
 -- the word at + (2 p + odd) has the digits of bit set, for each p in set, and all else is as in h
 pub record Marked (h : List ℕ) (at odd set bit : ℕ) (g : List ℕ) : Type 0 where
@@ -52,12 +43,12 @@ pub record Killed (h : List ℕ) (base cap n pos : ℕ) (g : List ℕ) : Type 0 
   pub long : length g ≡ length h
 
 -- one entry, of the event id, kept at place k or dropped
-pub record Stepped (h : List ℕ) (base cap n k alive axes events id : ℕ) (r : Next) (g : List ℕ) : Type 0 where
-  pub unknown : events ≤ id → r ≡ Bad
-  pub dead : id < events → is_live h alive id ≡ false → (r ≡ At k) × (g ≡ h)
+pub record Stepped (h : List ℕ) (base cap n k alive axes events id : ℕ) (r : Result ℕ Corrupt) (g : List ℕ) : Type 0 where
+  pub unknown : events ≤ id → IsErr r
+  pub dead : id < events → is_live h alive id ≡ false → (r ≡ Ok k) × (g ≡ h)
   pub live : id < events → is_live h alive id ≡ true → get_or h (axes + 2 * id) 0 < 2 ^ n → get_or h (axes + (2 * id + 1)) 0 < 2 ^ n
-      → (r ≡ At (k + 1)) × Appended h base cap n k (fresh id (get_or h (axes + 2 * id) 0) (get_or h (axes + (2 * id + 1)) 0)) g
-  pub next : (j : ℕ) → r ≡ At j → j ≤ k + 1
+      → (r ≡ Ok (k + 1)) × Appended h base cap n k (fresh id (get_or h (axes + 2 * id) 0) (get_or h (axes + (2 * id + 1)) 0)) g
+  pub next : (j : ℕ) → r ≡ Ok j → j ≤ k + 1
   pub long : length g ≡ length h
 
 -- the first b blocks of a list of len entries are full, of entries marked live whose events are live
@@ -67,19 +58,19 @@ pub record Settled (h : List ℕ) (base cap n len alive b : ℕ) : Type 0 where
   pub live : (i : ℕ) → i < 64 * b → is_live h alive (get_or h (base + i) 0) ≡ true
 
 -- the list of len entries becomes that of its live ones
-pub record Rebuilt (h : List ℕ) (base cap n len alive axes events : ℕ) (r : Next) (g : List ℕ) : Type 0 where
+pub record Rebuilt (h : List ℕ) (base cap n len alive axes events : ℕ) (r : Result ℕ Corrupt) (g : List ℕ) : Type 0 where
   pub long : length g ≡ length h
-  pub next : (j : ℕ) → r ≡ At j → j ≤ len
+  pub next : (j : ℕ) → r ≡ Ok j → j ≤ len
   pub all : (m : List Entry) → length m ≡ len → Reps h base cap n m → Source h n axes events m
-      → (r ≡ At (length (kept (is_live h alive) m))) × Reps g base cap n (kept (is_live h alive) m)
+      → (r ≡ Ok (length (kept (is_live h alive) m))) × Reps g base cap n (kept (is_live h alive) m)
       × Only (UsedBlocks base cap n (length (kept (is_live h alive) m))) h g
 
 -- ---- a scan
 
 -- a block that is paid for stops the scan where a digit of the test is set
-unfoldable pub paid : (test : ℕ) → Budget → Spent → Scan
-paid test left Short = Out left
-paid test left (Left rest) = cond (eqb test 0) (Clear rest) (Blocked rest)
+unfoldable pub paid : (test : ℕ) → Budget → Option Budget → Scan
+paid test left None = Out left
+paid test left (Some rest) = cond (eqb test 0) (Clear rest) (Blocked rest)
 
 -- one block with these live entries, of which those in word anticommute and those in first are asked for
 abbrev pub visited : (live word first : ℕ) → Budget → Scan
@@ -90,4 +81,3 @@ unfoldable pub and_then : Scan → (Budget → Scan) → Scan
 and_then (Clear left) f = f left
 and_then (Blocked left) f = Blocked left
 and_then (Out left) f = Out left
-and_then bad f = bad

@@ -1,7 +1,7 @@
 // A sliced list (the Rust's `SlicedList`): event numbers, rising, with the axes of each block of 64 entries in masks (specs/Blocks.antt). The
 // dead stay until more than half is dead. Its length and its dead count stand at `at`; from `base` on stand `cap` numbers, then 2 n masks
 // for each block, then a live word for each block.
-ghost use Rattle.std.specs.Prelude.{◌≡◌, true, false, List, map, ℕ, ◌+◌, ◌-◌, ◌*◌, ◌≤◌, ◌<◌, ◌^◌, length, get_or};
+ghost use Rattle.std.specs.Prelude.{◌≡◌, true, Ok, IsTrue, IsOk, IsErr, slice_index, List, map, ℕ, ◌+◌, ◌-◌, ◌*◌, ◌≤◌, ◌<◌, ◌^◌, length, get_or};
 ghost use Rattle.std.specs.Int.Count.{ones};
 ghost use Rattle.model.specs.Pauli.{has};
 ghost use Rattle.model.specs.Events.{State, words};
@@ -10,38 +10,25 @@ ghost use Rattle.lists.specs.Lists.{Room, is_live, still, Rises};
 ghost use Rattle.sliced.specs.Blocks.{Entry, entry, entry_of, fresh, sliced_room, Reps, Sliced, SlicedTo, Source, RisingIds, killed_at};
 ghost use Rattle.lists.specs.Scalars.{pushed};
 ghost use Rattle.lists.specs.Scans.{scan_of};
-ghost use Rattle.sliced.specs.Steps.{Cleared, Marked, Opened, Appended, Killed, Stepped, Settled, Rebuilt, Spread, visited, and_then};
+ghost use Rattle.sliced.specs.Steps.{Marked, Opened, Appended, Killed, Stepped, Settled, Rebuilt, Spread, visited, and_then};
 
-use super::masks::{Two, anticommuting, anticommuting_two};
-use lists::budget::{Budget, Scan, Spent};
-use lists::places::{Place, first_past, place_of};
-use pauli::bits::{lowest, rest};
+use super::masks::anticommuting;
+use lists::budget::{Budget, Scan};
+use lists::places::{first_past, place_of};
+use pauli::bits::bits;
+use pauli::corrupt::Corrupt;
+use pauli::fill::clear;
 use pauli::sets::contains;
 
 // ---- recording
-
-// Sets count words from at on to 0.
-fn clear(h: &mut [u64], at: usize, count: usize)
-    requires { at + count ≤ length h.old }
-    ensures { Cleared h.old at count h.new }
-{
-    let mut k = 0;
-    while k < count {
-        h[at + k] = 0;
-        k += 1;
-    }
-}
 
 // Sets the digits of bit in the word at + (2 p + odd) for each p in set.
 fn mark(h: &mut [u64], at: usize, odd: usize, set: u64, bit: u64)
     requires { (p : ℕ) → has set p ≡ 1 → at + (2 * p + odd) < length h.old }
     ensures { Marked h.old at odd set bit h.new }
 {
-    let mut w = set;
-    while w != 0 {
-        let p = lowest(w) as usize;
+    for p in bits(set) {
         h[at + (2 * p + odd)] |= bit;
-        w = rest(w);
     }
 }
 
@@ -73,7 +60,7 @@ fn append(h: &mut [u64], base: usize, cap: usize, n: usize, len: usize, id: u64,
     h[base + len] = id;
 }
 
-// Appends the event `id` with the axis (x, z). The answer is false where the list is full.
+// Appends the event `id` with the axis (x, z), unless the list is full.
 pub fn push(
     h: &mut [u64],
     at: usize,
@@ -83,31 +70,24 @@ pub fn push(
     id: u64,
     x: u64,
     z: u64,
-) -> bool
+) -> Result<(), Corrupt>
     requires { Room h.old at base (sliced_room cap n) × (n ≤ 32) × (x < 2 ^ n) × (z < 2 ^ n) }
     ensures long { length h.new ≡ length h.old }
-    ensures full { cap ≤ get_or h.old at 0 → result ≡ false }
-    ensures done { (m : List Entry) (d : ℕ) → Sliced h.old at base cap n m d → length m < cap → (result ≡ true) × SlicedTo h.old at base cap n (pushed (fresh id x z) m) d h.new }
+    ensures full { cap ≤ get_or h.old at 0 → IsErr result }
+    ensures done { (m : List Entry) (d : ℕ) → Sliced h.old at base cap n m d → length m < cap → IsOk result × SlicedTo h.old at base cap n (pushed (fresh id x z) m) d h.new }
 {
     let len = h[at] as usize;
     if cap <= len {
-        return false;
+        return Err(Corrupt);
     }
     append(h, base, cap, n, len, id, x, z);
     h[at] = (len + 1) as u64;
-    true
+    Ok(())
 }
 
 // ---- a death
 
-// Where the next entry that is kept goes; or that a stored value is bad.
-#[derive(Clone, Copy)]
-pub enum Next {
-    At(usize),
-    Bad,
-}
-
-// Keeps the entry of event `id` at place k, where the event is live.
+// Keeps the entry of event `id` at place k, where the event is live; the answer is where the next entry that is kept goes.
 fn keep(
     h: &mut [u64],
     base: usize,
@@ -118,42 +98,36 @@ fn keep(
     axes: usize,
     events: usize,
     id: u64,
-) -> Next
+) -> Result<usize, Corrupt>
     requires { Spread h.old base cap n × (k < cap) × (alive + words events ≤ base) × (axes + 2 * events ≤ base) }
     ensures { Stepped h.old base cap n k alive axes events id result h.new }
 {
     let e = id as usize;
     if events <= e {
-        return Next::Bad;
+        return Err(Corrupt);
     }
     let end = alive + (events + 63) / 64;
-    if contains(&h[alive..end], e) {
-        let x = h[axes + 2 * e];
-        let z = h[axes + (2 * e + 1)];
-        if (x | z) >> n != 0 {
-            return Next::Bad;
-        }
-        append(h, base, cap, n, k, id, x, z);
-        return Next::At(k + 1);
+    if !contains(&h[alive..end], e) {
+        return Ok(k);
     }
-    Next::At(k)
+    let x = h[axes + 2 * e];
+    let z = h[axes + (2 * e + 1)];
+    if (x | z) >> n != 0 {
+        return Err(Corrupt);
+    }
+    append(h, base, cap, n, k, id, x, z);
+    Ok(k + 1)
 }
 
 // Whether the events of the 64 numbers from `at` on are live.
 fn all_live(h: &[u64], at: usize, alive: usize, events: usize) -> bool
     requires { (at + 64 ≤ length h.now) × (alive + words events ≤ at) × (events ≤ at) }
-    ensures { result ≡ true → (j : ℕ) → j < 64 → is_live h.now alive (get_or h.now (at + j) 0) ≡ true }
+    ensures { IsTrue result → (j : ℕ) → j < 64 → is_live h.now alive (get_or h.now (at + j) 0) ≡ true }
 {
     let end = alive + (events + 63) / 64;
-    let mut j = 0;
-    while j < 64 {
+    for j in 0..64 {
         let e = h[at + j] as usize;
-        if events <= e {
-            return false;
-        }
-        if contains(&h[alive..end], e) {
-            j += 1;
-        } else {
+        if events <= e || !contains(&h[alive..end], e) {
             return false;
         }
     }
@@ -174,18 +148,12 @@ fn settled(
     ensures { Settled h.now base cap n len alive result }
 {
     let lives = base + cap + (cap + 63) / 64 * (2 * n);
-    let mut b = 0;
-    while b < len / 64 {
-        if h[lives + b] != !0 {
-            return b;
-        }
-        if all_live(h, base + 64 * b, alive, events) {
-            b += 1;
-        } else {
+    for b in 0..len / 64 {
+        if h[lives + b] != !0 || !all_live(h, base + 64 * b, alive, events) {
             return b;
         }
     }
-    b
+    len / 64
 }
 
 // Drops the entries whose events are dead; the answer is how many are left.
@@ -198,23 +166,17 @@ fn rebuild(
     alive: usize,
     axes: usize,
     events: usize,
-) -> Next
+) -> Result<usize, Corrupt>
     requires { Spread h.old base cap n × (len ≤ cap) × (alive + words events ≤ base) × (axes + 2 * events ≤ base) }
     ensures { Rebuilt h.old base cap n len alive axes events result h.new }
 {
-    let mut i = 64 * settled(h, base, cap, n, len, alive, events);
-    let mut k = i;
-    while i < len {
+    let front = 64 * settled(h, base, cap, n, len, alive, events);
+    let mut k = front;
+    for i in front..len {
         let id = h[base + i];
-        match keep(h, base, cap, n, k, alive, axes, events, id) {
-            Next::At(next) => {
-                k = next;
-                i += 1;
-            }
-            Next::Bad => return Next::Bad,
-        }
+        k = keep(h, base, cap, n, k, alive, axes, events, id)?;
     }
-    Next::At(k)
+    Ok(k)
 }
 
 // Marks the entry at pos dead.
@@ -227,7 +189,7 @@ fn mark_dead(h: &mut [u64], base: usize, cap: usize, n: usize, pos: usize)
 }
 
 // The entry of event `id`, no longer in the set of live events at `alive`, is dead: the list is rebuilt from its live entries, whose axes stand
-// at `axes`, once more than half is dead. The answer is false where a stored count, number or axis is bad.
+// at `axes`, once more than half is dead.
 pub fn kill(
     h: &mut [u64],
     at: usize,
@@ -238,37 +200,30 @@ pub fn kill(
     alive: usize,
     axes: usize,
     events: usize,
-) -> bool
+) -> Result<(), Corrupt>
     requires { Room h.old at base (sliced_room cap n) × (n ≤ 32) × (alive + words events ≤ at) × (axes + 2 * events ≤ at) }
     ensures long { length h.new ≡ length h.old }
-    ensures over { cap < get_or h.old at 0 → result ≡ false }
-    ensures all { get_or h.old at 0 ≤ get_or h.old (at + 1) 0 → result ≡ false }
-    ensures done { (m : List Entry) (d pos : ℕ) → Sliced h.old at base cap n m d → d < length m → RisingIds m → Source h.old n axes events m → pos < length m → (entry m pos).id ≡ id → (result ≡ true) × SlicedTo h.old at base cap n (killed_at h.old alive d pos m) (still 2 (d + 1) (length m)) h.new }
+    ensures over { cap < get_or h.old at 0 → IsErr result }
+    ensures all { get_or h.old at 0 ≤ get_or h.old (at + 1) 0 → IsErr result }
+    ensures done { (m : List Entry) (d pos : ℕ) → Sliced h.old at base cap n m d → d < length m → RisingIds m → Source h.old n axes events m → pos < length m → (entry m pos).id ≡ id → IsOk result × SlicedTo h.old at base cap n (killed_at h.old alive d pos m) (still 2 (d + 1) (length m)) h.new }
 {
     let len = h[at] as usize;
     let dead = h[at + 1] as usize;
-    if cap < len {
-        return false;
+    if cap < len || len <= dead {
+        return Err(Corrupt);
     }
-    if len <= dead {
-        return false;
-    }
-    let Place::At(pos) = place_of(&h[base..base + len], id) else {
-        return false;
+    let Some(pos) = place_of(&h[base..base + len], id) else {
+        return Err(Corrupt);
     };
     if 2 * (dead + 1) <= len {
         mark_dead(h, base, cap, n, pos);
         h[at + 1] = (dead + 1) as u64;
-        return true;
+        return Ok(());
     }
-    match rebuild(h, base, cap, n, len, alive, axes, events) {
-        Next::At(k) => {
-            h[at] = k as u64;
-            h[at + 1] = 0;
-            true
-        }
-        Next::Bad => false,
-    }
+    let k = rebuild(h, base, cap, n, len, alive, axes, events)?;
+    h[at] = k as u64;
+    h[at + 1] = 0;
+    Ok(())
 }
 
 // ---- a scan
@@ -287,28 +242,24 @@ fn cost(live: u64) -> u32
 fn visit(live: u64, word: u64, first: u64, left: Budget) -> Scan
     ensures { result ≡ visited live word first left }
 {
-    let Spent::Left(now) = left.spend(cost(live)) else {
+    let Some(now) = left.spend(cost(live)) else {
         return Scan::Out(left);
     };
-    if word & live & first != 0 {
-        return Scan::Blocked(now);
-    }
-    Scan::Clear(now)
+    if word & live & first != 0 { Scan::Blocked(now) } else { Scan::Clear(now) }
 }
 
 // Two blocks in a row, the later one whole.
-fn visit_two(live: u64, next: u64, words: Two, first: u64, left: Budget) -> Scan
-    ensures { result ≡ and_then (visited live words.one first left) (visited next words.other (2 ^ 64 - 1)) }
+fn visit_two(live: u64, next: u64, words: [u64; 2], first: u64, left: Budget) -> Scan
+    ensures { result ≡ and_then (visited live (slice_index words 0) first left) (visited next (slice_index words 1) (2 ^ 64 - 1)) }
 {
-    let found = visit(live, words.one, first, left);
-    let Scan::Clear(now) = found else {
-        return found;
-    };
-    visit(next, words.other, !0, now)
+    match visit(live, words[0], first, left) {
+        Scan::Clear(now) => visit(next, words[1], !0, now),
+        found => found,
+    }
 }
 
 // The blocks of a list of len entries from the one where the first entry after the event `after` would stand: each costs its live entries,
-// earlier ones too, and is then tested. They go two by two, so that the axis is walked half as often.
+// earlier ones too, and is then tested. They go two by two, so that the axis is walked half as often (no `for`: an odd one is left for the end).
 pub fn scan(
     h: &[u64],
     base: usize,
@@ -331,19 +282,18 @@ pub fn scan(
     let mut first = !0u64 << (start % 64);
     while b + 1 < used {
         let at = base + cap + b * (2 * n);
-        let words = anticommuting_two(&h[at..at + 4 * n], n, ax, az);
-        let found = visit_two(h[lives + b], h[lives + (b + 1)], words, first, left);
-        let Scan::Clear(now) = found else {
-            return found;
-        };
-        left = now;
+        let words = anticommuting::<2>(&h[at..at + 4 * n], n, ax, az);
+        match visit_two(h[lives + b], h[lives + (b + 1)], words, first, left) {
+            Scan::Clear(now) => left = now,
+            found => return found,
+        }
         first = !0;
         b += 2;
     }
     if b < used {
         let at = base + cap + b * (2 * n);
-        let word = anticommuting(&h[at..at + 2 * n], ax, az);
-        return visit(h[lives + b], word, first, left);
+        let words = anticommuting::<1>(&h[at..at + 2 * n], n, ax, az);
+        return visit(h[lives + b], words[0], first, left);
     }
     Scan::Clear(left)
 }

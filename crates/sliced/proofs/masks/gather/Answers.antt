@@ -1,48 +1,37 @@
--- `sliced::masks::gather` meets its contract: acc xor what is gathered over the digits w left to do is the whole. Assumes nothing.
-use mathlib.Core.Path.{sym, ◌∙◌}
-use mathlib.Core.List.{List}
-use Prim.Native.Nat.{ℕ, ◌+◌, ◌*◌, ◌/◌, ◌<◌}
+-- `sliced::masks::gather` meets its contract: the word of each block xor what is gathered over the digits left to do is the whole. Assumes nothing.
+use mathlib.Core.Path.{sym, ap, ◌∙◌}
+use Prim.Native.Nat.{◌+◌, ◌*◌, ◌<◌}
 use native.Mathlib.Omega.{arith}
-use lib.ListN.{length}
-use Rattle.pauli.specs.Digits.{Took}
-use Rattle.pauli.proofs.Walk.{Took-less}
-use Rattle.sliced.proofs.MaskLaws.{gather_turn, gather_end, place_lt}
+use lib.ListN.{get_or}
+use Rattle.pauli.specs.declared.bits.SetBits.{SetBits}
+use Rattle.sliced.proofs.MaskLaws.{Gathering-none, Gathering-more, Mixed-none, Mixed-more, gather_end, place_lt, mask_lt}
 use Rattle.sliced.proofs.masks.gather.Goals as goal
-use Rattle.sliced.proofs.masks.gather.Goals.{After-lowest-p, After-rest-w}
 
--- within a turn
-abbrev ms : After-lowest-p → List ℕ
-ms c = c.args.masks.now
-
-abbrev odd-of : After-lowest-p → ℕ
-odd-of c = c.args.odd
-
-abbrev w-of : After-lowest-p → ℕ
-w-of c = c.loop-w.w
-
-abbrev acc-of : After-lowest-p → ℕ
-acc-of c = c.loop-w.acc
-
-abbrev p-of : After-lowest-p → ℕ
-p-of c = c.lowest-p.result
-
-in_block : (c : After-lowest-p) → p-of c < length (ms c) / 2
-in_block c = place_lt (length (ms c) / 2) (w-of c) (p-of c) (omega arith) c.lowest-p.ensures.one
-
-took : (c : After-rest-w) → Took (w-of (goal.at.After-rest-w c).After-lowest-p) (p-of (goal.at.After-rest-w c).After-lowest-p) c.rest-w.result
-took c = c.rest-w.ensures (p-of (goal.at.After-rest-w c).After-lowest-p) c.lowest-p.ensures
-
-pub bounds-masks-p : goal.bounds-masks-p
-bounds-masks-p c = omega (arith, in_block (goal.at.bounds-masks-p c).After-lowest-p)
-
-pub loop-w-preserved : goal.loop-w-preserved
-loop-w-preserved c =
-    let a = (goal.at.loop-w-preserved c).After-lowest-p in (
-      gather_turn (ms a) 0 (length (ms a) / 2) (odd-of a) (acc-of a) (w-of a) (p-of a) c.rest-w.result (2 * p-of a + odd-of a) (omega arith) (took c) c.lowest-p.ensures.one (in_block a) ∙ c.loop-w.invariant.0,
-      omega (arith, Took-less (w-of a) (p-of a) c.rest-w.result (took c)),
-    )
-
-pub returns : goal.returns
-returns c =
+pub loop-p-init : goal.loop-p-init
+loop-p-init g c =
     let a = c.args in
-    sym (gather_end a.masks.now 0 (length a.masks.now / 2) a.odd c.loop-w.acc c.loop-w.w (omega arith)) ∙ c.loop-w.invariant.0
+    Gathering-none a.masks.now a.n a.odd a.set g.row.B _ (ap (λ (s : SetBits). s.left) c.into_iter-p-iterator.ensures.into_iter_gives ∙ c.bits-p-items.ensures)
+
+pub loop-b-init : goal.loop-b-init
+loop-b-init g c = Mixed-none _ _ _ c.loop-p.invariant.long
+
+pub bounds-masks-b : goal.bounds-masks-b
+bounds-masks-b g c =
+    let a = c.args in
+    let lp : c.in-Some.p < a.n = place_lt a.n c.loop-p.p-iterator.left c.in-Some.p (omega (arith, c.loop-p.invariant.less)) c.in-Some.ensures.steps.0.one in
+    omega (arith, mask_lt g.row.B c.loop-b.b a.n c.in-Some.p a.odd c.loop-b-test.true lp c.requires.2)
+
+pub loop-b-preserved : goal.loop-b-preserved
+loop-b-preserved g c = Mixed-more _ _ _ _ _ c.loop-b.invariant c.loop-b-test.true
+
+pub loop-p-preserved : goal.loop-p-preserved
+loop-p-preserved g c =
+    let a = c.args in
+    let lp : c.in-Some.p < a.n = place_lt a.n c.loop-p.p-iterator.left c.in-Some.p (omega (arith, c.loop-p.invariant.less)) c.in-Some.ensures.steps.0.one in
+    Gathering-more a.masks.now a.n a.odd a.set g.row.B c.loop-p.p-iterator.left c.in-Some.p c.next.new.self.left c.loop-b.b c.loop-p.acc c.loop-b.acc
+    c.loop-b-test.false c.in-Some.ensures.steps.1 c.in-Some.ensures.steps.0.one lp c.loop-p.invariant c.loop-b.invariant
+
+pub returns-clause-words : goal.returns-clause-words
+returns-clause-words g c =
+    let a = c.args in
+    λ b l. sym (gather_end a.masks.now (b * (2 * a.n)) a.n a.odd (get_or c.loop-p.acc b 0) c.loop-p.p-iterator.left c.in-None.ensures.steps.0) ∙ c.loop-p.invariant.rest b l

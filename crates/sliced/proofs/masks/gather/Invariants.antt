@@ -1,13 +1,14 @@
--- `sliced::masks::gather` meets its contract: acc xor what is gathered over the digits w left to do is the whole. Assumes nothing.
+-- `sliced::masks::gather` meets its contract: the word of each block xor what is gathered over the digits left to do is the whole. Assumes nothing.
 use mathlib.Core.Path.{◌≡◌}
-use Prim.Native.Nat.{◌/◌, ◌≤◌}
+use Prim.Native.Nat.{ℕ, ◌+◌, ◌*◌, ◌≤◌, ◌<◌}
 use lib.Bits.{bit_xor}
-use lib.ListN.{length}
+use lib.ListN.{length, get_or}
 use Rattle.sliced.specs.Gathered.{gathered}
+use Rattle.sliced.proofs.MaskLaws.{Gathering, Mixed}
 use Rattle.sliced.proofs.masks.gather.Given as goal
 
-abbrev pub invariant-loop-w : goal.invariant-loop-w
-invariant-loop-w l = (bit_xor l.acc (gathered l.masks 0 (length l.masks / 2) l.odd l.w) ≡ gathered l.masks 0 (length l.masks / 2) l.odd l.set) × (l.w ≤ l.set)
+abbrev pub invariant-loop-p : goal.invariant-loop-p
+invariant-loop-p g l = Gathering l.masks l.n l.odd l.set g.row.B l.p-iterator.left l.acc
 
-abbrev pub decreases-loop-w : goal.decreases-loop-w
-decreases-loop-w l = l.w
+abbrev pub invariant-loop-b : goal.invariant-loop-b
+invariant-loop-b g l = Mixed (λ k. get_or l.masks (k * (2 * l.n) + (2 * l.p + l.odd)) 0) g.row.B l.b l.initial.acc l.acc

@@ -14,8 +14,6 @@ pub slice_bounds-contains-end : goal.slice_bounds-contains-end
 slice_bounds-contains-end c = unfold words in search rules
 
 pub loop-j-preserved : goal.loop-j-preserved
-loop-j-preserved c = (
-  omega arith,
-  one_more (λ i. is_live c.args.h.now c.args.alive (get_or c.args.h.now (c.args.at + i) 0) ≡ true) c.loop-j.j c.loop-j.invariant.1
-      (sym (live_part c.args.h.now c.args.alive ((c.args.events + 63) / 64) (get_or c.args.h.now (c.args.at + c.loop-j.j) 0) c.contains.result (omega arith) c.contains.ensures) ∙ c.if-contains.true),
-)
+loop-j-preserved c =
+    one_more (λ i. is_live c.args.h.now c.args.alive (get_or c.args.h.now (c.args.at + i) 0) ≡ true) c.loop-j.j c.loop-j.invariant
+    (sym (live_part c.args.h.now c.args.alive ((c.args.events + 63) / 64) (get_or c.args.h.now (c.args.at + c.loop-j.j) 0) c.contains.result (omega arith) c.contains.ensures) ∙ c.if-not-contains.false)

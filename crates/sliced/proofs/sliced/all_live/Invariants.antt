@@ -1,13 +1,10 @@
 -- `sliced::sliced::all_live` meets its contract: the numbers before j are of live events. Assumes nothing.
 use mathlib.Core.Path.{◌≡◌}
 use mathlib.Core.Bool.{true}
-use Prim.Native.Nat.{ℕ, ◌+◌, ◌-◌, ◌≤◌, ◌<◌}
+use Prim.Native.Nat.{ℕ, ◌+◌, ◌<◌}
 use lib.ListN.{get_or}
 use Rattle.lists.specs.Lists.{is_live}
 use Rattle.sliced.proofs.sliced.all_live.Given as goal
 
 abbrev pub invariant-loop-j : goal.invariant-loop-j
-invariant-loop-j l = (l.j ≤ 64) × ((i : ℕ) → i < l.j → is_live l.h l.alive (get_or l.h (l.at + i) 0) ≡ true)
-
-abbrev pub decreases-loop-j : goal.decreases-loop-j
-decreases-loop-j l = 64 - l.j
+invariant-loop-j l = (i : ℕ) → i < l.j → is_live l.h l.alive (get_or l.h (l.at + i) 0) ≡ true

@@ -1,8 +1,9 @@
 -- `sliced::sliced::kill` meets its contract: the entry is marked dead in place, or the list is rebuilt. Assumes nothing.
-use mathlib.Core.Path.{refl}
+use mathlib.Core.Path.{refl, ap}
+use Rattle.std.specs.Prelude.{is_err}
 use Prim.Native.Nat.{◌+◌}
 use lib.ListN.{get_or}
-use Rattle.sliced.proofs.SliceLaws.{Found-is, not_lost, marked_to, Rebuilt-to}
+use Rattle.sliced.proofs.SliceLaws.{Found-is, not_lost, marked_to, Rebuilt-to, Rebuilt-not_bad}
 use Rattle.sliced.proofs.sliced.kill.Goals as goal
 
 pub returns-in_default-clause-done : goal.returns-in_default-clause-done
@@ -11,9 +12,12 @@ returns-in_default-clause-done c = λ m d pos r ld rise src lp q. absurd (not_lo
 pub returns-then-dead-len-clause-done : goal.returns-then-dead-len-clause-done
 returns-then-dead-len-clause-done c = λ m d pos r ld rise src lp q. (
   refl,
-  marked_to c.args.h.now c.args.at c.args.base c.args.cap c.args.n c.args.alive c.args.axes c.args.events m d pos (get_or c.args.h.now c.args.at 0) (get_or c.args.h.now (c.args.at + 1) 0) c.requires.0.fits c.requires.0.counts r refl refl c.in-At.pos c.mark_dead.new.h
-      (Found-is c.args.h.now c.args.at c.args.base c.args.cap c.args.n c.args.alive c.args.axes c.args.events m d pos (get_or c.args.h.now c.args.at 0) (get_or c.args.h.now (c.args.at + 1) 0) c.requires.0.fits c.requires.0.counts r refl refl c.args.id c.in-At.pos c.place_of.result c.if-cap-len.false c.place_of.ensures c.in-At.is rise lp q) lp c.if-dead-len.true c.mark_dead.ensures,
+  marked_to c.args.h.now c.args.at c.args.base c.args.cap c.args.n c.args.alive c.args.axes c.args.events m d pos (get_or c.args.h.now c.args.at 0) (get_or c.args.h.now (c.args.at + 1) 0) c.requires.0.fits c.requires.0.counts r refl refl c.in-Some.pos c.mark_dead.new.h
+      (Found-is c.args.h.now c.args.at c.args.base c.args.cap c.args.n c.args.alive c.args.axes c.args.events m d pos (get_or c.args.h.now c.args.at 0) (get_or c.args.h.now (c.args.at + 1) 0) c.requires.0.fits c.requires.0.counts r refl refl c.args.id c.in-Some.pos c.place_of.result c.if-cap-len.false c.place_of.ensures c.in-Some.is rise lp q) lp c.if-dead-len.true c.mark_dead.ensures,
 )
 
-pub returns-in-At-rebuild-clause-done : goal.returns-in-At-rebuild-clause-done
-returns-in-At-rebuild-clause-done c = λ m d pos r ld rise src lp q. (refl, Rebuilt-to c.args.h.now c.args.at c.args.base c.args.cap c.args.n c.args.alive c.args.axes c.args.events m d pos (get_or c.args.h.now c.args.at 0) (get_or c.args.h.now (c.args.at + 1) 0) c.requires.0.fits c.requires.0.counts r refl refl c.rebuild.result c.in-At-rebuild.k c.rebuild.new.h c.if-dead-len.false c.in-At-rebuild.is src c.rebuild.ensures)
+pub returns-clause-done : goal.returns-clause-done
+returns-clause-done c = λ m d pos r ld rise src lp q. (refl, Rebuilt-to c.args.h.now c.args.at c.args.base c.args.cap c.args.n c.args.alive c.args.axes c.args.events m d pos (get_or c.args.h.now c.args.at 0) (get_or c.args.h.now (c.args.at + 1) 0) c.requires.0.fits c.requires.0.counts r refl refl c.rebuild.result c.in_ok-k.k c.rebuild.new.h c.if-dead-len.false c.in_ok-k.was src c.rebuild.ensures)
+
+pub returns-in_err-k-clause-done : goal.returns-in_err-k-clause-done
+returns-in_err-k-clause-done c = λ m d pos r ld rise src lp q. Rebuilt-not_bad c.args.h.now c.args.at c.args.base c.args.cap c.args.n c.args.alive c.args.axes c.args.events m d pos (get_or c.args.h.now c.args.at 0) (get_or c.args.h.now (c.args.at + 1) 0) c.requires.0.fits c.requires.0.counts r refl refl c.rebuild.result c.rebuild.new.h (ap is_err c.in_err-k.was) src c.rebuild.ensures

@@ -19,7 +19,7 @@ bounds-h-live c = search rules
 pub returns-then-len-eq0 : goal.returns-then-len-eq0
 unfolding words
 returns-then-len-eq0 c =
-    Opened-fresh c.args.h.now c.args.base c.args.cap c.args.n c.args.len c.clear.new.h c.requires.0 c.requires.1 c.if-len-eq0.true c.clear.ensures
+    Opened-fresh c.args.h.now c.args.base c.args.cap c.args.n c.args.len c.clear.new.s c.requires.0 c.requires.1 c.if-len-eq0.true c.clear.ensures
 
 pub returns-else-len-eq0 : goal.returns-else-len-eq0
 returns-else-len-eq0 c =

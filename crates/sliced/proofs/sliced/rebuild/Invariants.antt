@@ -1,13 +1,10 @@
 -- `sliced::sliced::rebuild` meets its contract: the live ones of the first i entries stand as a list of k. Assumes nothing.
 use mathlib.Core.Path.{◌≡◌}
-use Prim.Native.Nat.{◌-◌, ◌≤◌}
+use Prim.Native.Nat.{◌≤◌}
 use lib.ListN.{length}
 use Rattle.sliced.proofs.RebuildLaws.{Built}
 use Rattle.sliced.proofs.sliced.rebuild.Given as goal
 
 abbrev pub invariant-loop-i : goal.invariant-loop-i
 invariant-loop-i l =
-    (l.i ≤ l.len) × (l.k ≤ l.i) × (length l.h ≡ length l.initial.h) × Built l.initial.h l.base l.cap l.n l.len l.alive l.axes l.events l.i l.k l.h
-
-abbrev pub decreases-loop-i : goal.decreases-loop-i
-decreases-loop-i l = l.len - l.i
+    (l.k ≤ l.i) × (length l.h ≡ length l.initial.h) × Built l.initial.h l.base l.cap l.n l.len l.alive l.axes l.events l.i l.k l.h

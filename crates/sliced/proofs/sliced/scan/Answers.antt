@@ -12,9 +12,8 @@ use Rattle.sliced.specs.Gathered.{Marks}
 use Rattle.sliced.specs.Steps.{visited, and_then}
 use Rattle.sliced.proofs.RebuildLaws.{part_length}
 use Rattle.sliced.proofs.BlockWalk.{FirstIs, first_start, first_later, Remains, Remains-start, Answers, turn_end, turn_last, turn, masks_fit, next_masks, Marks-lent}
-use borrow.Enum.Refused.{opened}
 use Rattle.sliced.proofs.sliced.scan.Goals as goal
-use Rattle.sliced.proofs.sliced.scan.Goals.{After-visit_two-found, At-loop-b, In-loop-b, Start, Then-b-used}
+use Rattle.sliced.proofs.sliced.scan.Goals.{After-visit_two, At-loop-b, In-loop-b, Start, Then-b-used}
 
 -- from the loop's head: where the masks and the live word of a block stand, and the laws of a turn
 abbrev at_of : At-loop-b → ℕ → ℕ
@@ -59,21 +58,21 @@ unfolding words
 one-fits c = fit (goal.at.Then-b-used c).At-loop-b c.loop-b.b c.if-b-used.true
 
 -- the answer of two blocks
-two : (c : After-visit_two-found) → Rest (goal.at.After-visit_two-found c).At-loop-b (c.loop-b.b + 2) c.visit_two-found.result
+two : (c : After-visit_two) → Rest (goal.at.After-visit_two c).At-loop-b (c.loop-b.b + 2) c.visit_two.result
 unfolding words and_then
 two c =
-    let l = (goal.at.After-visit_two-found c).At-loop-b in
+    let l = (goal.at.After-visit_two c).At-loop-b in
     let a = c.args in
     let b : ℕ = c.loop-b.b in
     let e : b + 1 + 1 ≡ b + 2 = omega arith in
     let lb : b < words a.len = omega (arith, c.loop-b-test.true) in
-    let one : Marks a.h.now (at_of l b) a.n a.ax a.az c.anticommuting_two-words.result.one =
-    Marks-lent a.h.now (at_of l b) (4 * a.n) 0 a.n (at_of l b) a.n a.ax a.az c.anticommuting_two-words.result.one refl (omega arith) (omega arith) c.anticommuting_two-words.ensures.0 in
-    let other : Marks a.h.now (at_of l (b + 1)) a.n a.ax a.az c.anticommuting_two-words.result.other =
-    Marks-lent a.h.now (at_of l b) (4 * a.n) (2 * a.n) a.n (at_of l (b + 1)) a.n a.ax a.az c.anticommuting_two-words.result.other refl (omega arith) (next_masks a.base a.cap a.n b) c.anticommuting_two-words.ensures.1 in
-    subst (λ (k : ℕ). Rest l k c.visit_two-found.result) e (subst (Rest l (b + 1 + 1)) (sym c.visit_two-found.ensures)
-    (step l (b + 1) (visited (live_of l b) c.anticommuting_two-words.result.one c.loop-b.first c.loop-b.left) c.anticommuting_two-words.result.other (2 ^ 64 - 1)
-    (step l b (Clear c.loop-b.left) c.anticommuting_two-words.result.one c.loop-b.first c.loop-b.invariant.3 lb one c.loop-b.invariant.1)
+    let one : Marks a.h.now (at_of l b) a.n a.ax a.az (get_or c.anticommuting-words.result 0 0) =
+    Marks-lent a.h.now (at_of l b) (4 * a.n) (0 * (2 * a.n)) a.n (at_of l b) a.n a.ax a.az (get_or c.anticommuting-words.result 0 0) refl (omega arith) (omega arith) (c.anticommuting-words.ensures 0 (omega arith)) in
+    let other : Marks a.h.now (at_of l (b + 1)) a.n a.ax a.az (get_or c.anticommuting-words.result 1 0) =
+    Marks-lent a.h.now (at_of l b) (4 * a.n) (1 * (2 * a.n)) a.n (at_of l (b + 1)) a.n a.ax a.az (get_or c.anticommuting-words.result 1 0) refl (omega arith) (omega (arith, next_masks a.base a.cap a.n b)) (c.anticommuting-words.ensures 1 (omega arith)) in
+    subst (λ (k : ℕ). Rest l k c.visit_two.result) e (subst (Rest l (b + 1 + 1)) (sym c.visit_two.ensures)
+    (step l (b + 1) (visited (live_of l b) (get_or c.anticommuting-words.result 0 0) c.loop-b.first c.loop-b.left) (get_or c.anticommuting-words.result 1 0) (2 ^ 64 - 1)
+    (step l b (Clear c.loop-b.left) (get_or c.anticommuting-words.result 0 0) c.loop-b.first c.loop-b.invariant.3 lb one c.loop-b.invariant.1)
     c.loop-b-test.true other (first_later c.first_past-start.result (b + 1) (omega arith))))
 
 end : (l : At-loop-b) (b : ℕ) (r : Scan) → Rest l b r → words l.args.len ≤ b → Answer l r
@@ -91,8 +90,8 @@ loop-b-init c =
       Remains-start c.args.h.now c.args.base c.args.cap c.args.n c.args.len c.args.after c.args.ax c.args.az c.first_past-start.result c.args.budget (part_in s) c.first_past-start.ensures.splits,
     )
 
-pub slice_bounds-anticommuting_two-end : goal.slice_bounds-anticommuting_two-end
-slice_bounds-anticommuting_two-end c = omega (arith, two-fit c)
+pub slice_bounds-anticommuting-end : goal.slice_bounds-anticommuting-end
+slice_bounds-anticommuting-end c = omega (arith, two-fit c)
 
 pub bounds-h-lives : goal.bounds-h-lives
 unfolding words
@@ -104,19 +103,19 @@ bounds-h-lives-in-loop-b c = search rules
 
 pub returns-in_default : goal.returns-in_default
 returns-in_default c =
-    let e = (goal.at.returns-in_default c).After-visit_two-found in
+    let e = (goal.at.returns-in_default c).After-visit_two in
     let s = (goal.at.returns-in_default c).Start in
     let a = c.args in
-    turn_last a.h.now a.base a.cap a.n a.len a.after a.ax a.az c.first_past-start.result a.budget (part_in s) c.first_past-start.ensures.splits (c.loop-b.b + 2) c.visit_two-found.result (two e) (opened c.in_default.in_default-own.keys2)
+    turn_last a.h.now a.base a.cap a.n a.len a.after a.ax a.az c.first_past-start.result a.budget (part_in s) c.first_past-start.ensures.splits (c.loop-b.b + 2) c.visit_two.result (two e) c.in_default.not-Clear
 
 pub loop-b-preserved : goal.loop-b-preserved
 loop-b-preserved c =
-    let e = (goal.at.loop-b-preserved c).After-visit_two-found in
+    let e = (goal.at.loop-b-preserved c).After-visit_two in
     let l = (goal.at.loop-b-preserved c).At-loop-b in
     (omega arith, first_later c.first_past-start.result (c.loop-b.b + 2) (omega arith), omega arith, subst (Rest l (c.loop-b.b + 2)) c.in-Clear.is (two e))
 
-pub slice_bounds-anticommuting-end : goal.slice_bounds-anticommuting-end
-slice_bounds-anticommuting-end c = omega (arith, one-fits c)
+pub slice_bounds-anticommuting-end-then-b-used : goal.slice_bounds-anticommuting-end-then-b-used
+slice_bounds-anticommuting-end-then-b-used c = omega (arith, one-fits c)
 
 pub bounds-h-lives-then-b-used : goal.bounds-h-lives-then-b-used
 unfolding words
@@ -129,10 +128,10 @@ returns-then-b-used c =
     let l = (goal.at.returns-then-b-used c).At-loop-b in
     let a = c.args in
     let b : ℕ = c.loop-b.b in
-    let long : length (take (at_of l b + 2 * a.n - at_of l b) (drop (at_of l b) a.h.now)) ≡ 2 * a.n = part_length a.h.now (at_of l b) (2 * a.n) (one-fits i) in
-    let marks : Marks a.h.now (at_of l b) a.n a.ax a.az c.anticommuting-word.result =
-    Marks-lent a.h.now (at_of l b) (2 * a.n) 0 (length (take (at_of l b + 2 * a.n - at_of l b) (drop (at_of l b) a.h.now)) / 2) (at_of l b) a.n a.ax a.az c.anticommuting-word.result (omega arith) (omega arith) (omega arith) c.anticommuting-word.ensures in
-    end l (b + 1) c.visit.result (subst (Rest l (b + 1)) (sym c.visit.ensures) (step l b (Clear c.loop-b.left) c.anticommuting-word.result c.loop-b.first c.loop-b.invariant.3 c.if-b-used.true marks c.loop-b.invariant.1)) (omega (arith, c.loop-b-test.false))
+    let word : ℕ = get_or c.anticommuting-words-then-b-used.result 0 0 in
+    let marks : Marks a.h.now (at_of l b) a.n a.ax a.az word =
+    Marks-lent a.h.now (at_of l b) (2 * a.n) (0 * (2 * a.n)) a.n (at_of l b) a.n a.ax a.az word refl (omega arith) (omega arith) (c.anticommuting-words-then-b-used.ensures 0 (omega arith)) in
+    end l (b + 1) c.visit.result (subst (Rest l (b + 1)) (sym c.visit.ensures) (step l b (Clear c.loop-b.left) word c.loop-b.first c.loop-b.invariant.3 c.if-b-used.true marks c.loop-b.invariant.1)) (omega (arith, c.loop-b-test.false))
 
 pub returns : goal.returns
 unfolding words

@@ -15,4 +15,4 @@ bounds-h-lives c = search rules
 pub loop-b-preserved : goal.loop-b-preserved
 unfolding words
 loop-b-preserved c =
-    Settled-more c.args.h.now c.args.base c.args.cap c.args.n c.args.len c.args.alive c.loop-b.b c.loop-b.invariant c.loop-b-test.true c.if-h-lives.false (c.all_live.ensures c.if-all_live.true)
+    Settled-more c.args.h.now c.args.base c.args.cap c.args.n c.args.len c.args.alive c.loop-b.b c.loop-b.invariant c.loop-b-test.true c.if-h-lives.false (c.all_live.ensures c.if-not-all_live.false)

@@ -31,11 +31,11 @@ unfolding paid
 returns-then-word-live-ne0 c =
     let e = (goal.at.returns-then-word-live-ne0 c).After-spend in
     let s = (goal.at.returns-then-word-live-ne0 c).Start in
-    ap (λ (b : Bool). cond b (Clear c.in-Left.now) (Blocked c.in-Left.now)) (sym (ne_eqb (test s) 0 c.if-word-live-ne0.true)) ∙ ap (paid (test s) c.args.left) (sym c.in-Left.is ∙ spends e)
+    ap (λ (b : Bool). cond b (Clear c.in-Some.now) (Blocked c.in-Some.now)) (sym (ne_eqb (test s) 0 c.if-word-live-ne0.true)) ∙ ap (paid (test s) c.args.left) (sym c.in-Some.is ∙ spends e)
 
-pub returns : goal.returns
+pub returns-else-word-live-ne0 : goal.returns-else-word-live-ne0
 unfolding paid
-returns c =
-    let e = (goal.at.returns c).After-spend in
-    let s = (goal.at.returns c).Start in
-    ap (λ (b : Bool). cond b (Clear c.in-Left.now) (Blocked c.in-Left.now)) (sym (eq-eqb (test s) 0 c.if-word-live-ne0.false)) ∙ ap (paid (test s) c.args.left) (sym c.in-Left.is ∙ spends e)
+returns-else-word-live-ne0 c =
+    let e = (goal.at.returns-else-word-live-ne0 c).After-spend in
+    let s = (goal.at.returns-else-word-live-ne0 c).Start in
+    ap (λ (b : Bool). cond b (Clear c.in-Some.now) (Blocked c.in-Some.now)) (sym (eq-eqb (test s) 0 c.if-word-live-ne0.false)) ∙ ap (paid (test s) c.args.left) (sym c.in-Some.is ∙ spends e)
