@@ -378,10 +378,10 @@ unfolding scalar_list
 list_from s b x z after start left m = ap (λ (t : List ℕ). walk (map (entry s x z b) t) left) (keep-Splits after start (list_at s b) m)
 
 -- an answer is one value alone, and none where it is an error
-same_answer : {A E : Type 0} (r : Result A E) (x y : A) → r ≡ Ok x → r ≡ Ok y → x ≡ y
+pub same_answer : {A E : Type 0} (r : Result A E) (x y : A) → r ≡ Ok x → r ≡ Ok y → x ≡ y
 same_answer r x y e f = cc
 
-answer_not : {A E B : Type 0} (r : Result A E) (x : A) → IsErr r → r ≡ Ok x → B
+pub answer_not : {A E B : Type 0} (r : Result A E) (x : A) → IsErr r → r ≡ Ok x → B
 answer_not (Ok y) x e f = absurd (true≢false (sym e))
 answer_not (Err y) x e f = absurd cc
 

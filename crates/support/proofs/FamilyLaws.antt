@@ -17,6 +17,7 @@ use lib.Arith.{lt-one}
 use lib.Dec.{eqb}
 use lib.Bits.{bit_or}
 use borrow.Author.Tests.{eq-eqb, ne_eqb}
+use Rattle.std.specs.Prelude.{Result, Ok, Err, IsOk, IsErr}
 use Rattle.model.specs.Pauli.{has}
 use Rattle.model.specs.Events.{words}
 use Rattle.model.specs.Demands.{Mem}
@@ -275,9 +276,9 @@ or_digit_below n x z i hx hz o = ⊎_elim (λ (l : i < n). l) (λ r. absurd (no 
     no l = let a = has_past n x i hx l in let b = has_past n z i hz l in let c = has-or x z i in omega arith
 
 -- the answer of a call that must not fail
-pub refuses : (r : Bool) → not r ≡ true → r ≡ true → ⊥
-refuses true p q = false≢true p
-refuses false p q = false≢true q
+pub refuses : {A E : Type 0} (r : Result A E) → IsErr r → IsOk r → ⊥
+refuses (Ok x) p q = false≢true p
+refuses (Err x) p q = false≢true q
 
 -- ---- what a kill reads stands before the lists
 

@@ -30,7 +30,7 @@ use Rattle.lists.specs.Scans.{scan_of, steps}
 use Rattle.lists.proofs.ScanLaws.{signature_digit as signature_bit}
 use Rattle.lists.specs.declared.budget.Budget.{Budget}
 use Rattle.lists.specs.declared.budget.Scan.{Scan}
-use Rattle.lists.specs.declared.budget.Scan.TheVariants.{Clear, Blocked, Out, Bad}
+use Rattle.lists.specs.declared.budget.Scan.TheVariants.{Clear, Blocked, Out}
 
 -- ---- one walk after another
 
@@ -152,19 +152,6 @@ module _ (f : ℕ → List Work) (p : ℕ → Bool) (L : ℕ) where
         go (done n) e q = absurd (other (steps n) q)
         go (stopped i n) e q = q ∙ ap scan_of (sym (turn ∙ ap (λ (x : Walk). and_then x (join (map f (keep p (from (suc b) (L - suc b)))))) e))
         go (dry n) e q = q ∙ ap scan_of (sym (turn ∙ ap (λ (x : Walk). and_then x (join (map f (keep p (from (suc b) (L - suc b)))))) e))
-
--- a scan of good words does not answer that they are bad
-pub never_bad : {A : Type 0} (x : Walk) → Bad ≡ scan_of x → A
-unfolding scan_of
-never_bad (done n) q = let z : ◌≡◌ {A = ℕ} 0 1 = cc in absurd (omega arith)
-never_bad (stopped i n) q = let z : ◌≡◌ {A = ℕ} 0 1 = cc in absurd (omega arith)
-never_bad (dry n) q = let z : ◌≡◌ {A = ℕ} 0 1 = cc in absurd (omega arith)
-
-pub blocked_other : (b now : Budget) → Blocked b ≡ Clear now → ⊥
-blocked_other b now q = let z : ◌≡◌ {A = ℕ} 0 1 = cc in omega arith
-
-pub out_other : (b now : Budget) → Out b ≡ Clear now → ⊥
-out_other b now q = let z : ◌≡◌ {A = ℕ} 0 1 = cc in omega arith
 
 -- ---- the digits of a signature
 

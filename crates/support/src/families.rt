@@ -1,6 +1,6 @@
 // All lists of a form (the Rust's `SupportLists`): what is done to each list of an axis's signature, set bits rising. List b has its counts
 // at at + 2 b, and its room from base + b * size on: size is `cap` in the scalar form, cap + (2 n + 1) ((cap + 63) / 64) in the sliced one.
-ghost use Rattle.std.specs.Prelude.{◌≡◌, true, false, List, ℕ, ◌+◌, ◌*◌, ◌≤◌, ◌<◌, ◌^◌, length};
+ghost use Rattle.std.specs.Prelude.{◌≡◌, Ok, IsOk, List, ℕ, ◌+◌, ◌*◌, ◌≤◌, ◌<◌, ◌^◌, length};
 ghost use Rattle.std.specs.Int.Bits.{bit_or};
 ghost use Rattle.model.specs.Pauli.{has};
 ghost use Rattle.model.specs.Events.{State, words};
@@ -14,24 +14,23 @@ ghost use Rattle.lists.specs.Scans.{scan_of};
 
 use lists::budget::{Budget, Scan};
 use pauli::bits::{lowest, rest};
+use pauli::corrupt::Corrupt;
 
 // ---- scalar
 
 // Appends `id` to each list of sig.
-pub fn push_scalar(h: &mut [u64], at: usize, base: usize, cap: usize, sig: u64, id: u64) -> bool
+pub fn push_scalar(h: &mut [u64], at: usize, base: usize, cap: usize, sig: u64, id: u64) -> Result<(), Corrupt>
     requires { ScalarRooms h.old at base cap }
     ensures long { length h.new ≡ length h.old }
-    ensures done { (ls : ℕ → List ℕ) (d : ℕ → ℕ) → Scalars h.old at base cap ls d → ((b : ℕ) → b < 64 → has sig b ≡ 1 → length (ls b) < cap) → (result ≡ true) × ScalarsTo h.old at base cap sig (chosen sig (λ b. pushed id (ls b)) ls) d h.new }
+    ensures done { (ls : ℕ → List ℕ) (d : ℕ → ℕ) → Scalars h.old at base cap ls d → ((b : ℕ) → b < 64 → has sig b ≡ 1 → length (ls b) < cap) → IsOk result × ScalarsTo h.old at base cap sig (chosen sig (λ b. pushed id (ls b)) ls) d h.new }
 {
     let mut w = sig;
     while w != 0 {
         let b = lowest(w) as usize;
-        if !lists::scalar::push(h, at + 2 * b, base + b * cap, cap, id) {
-            return false;
-        }
+        lists::scalar::push(h, at + 2 * b, base + b * cap, cap, id)?;
         w = rest(w);
     }
-    true
+    Ok(())
 }
 
 // One more entry is dead in each list of sig: its event is no longer in the set of live events at `alive`.
@@ -43,20 +42,18 @@ pub fn kill_scalar(
     sig: u64,
     alive: usize,
     events: usize,
-) -> bool
+) -> Result<(), Corrupt>
     requires { ScalarRooms h.old at base cap × (alive + words events ≤ at) }
     ensures long { length h.new ≡ length h.old }
-    ensures done { (ls : ℕ → List ℕ) (d : ℕ → ℕ) → Scalars h.old at base cap ls d → ((b : ℕ) → b < 64 → has sig b ≡ 1 → (d b < length (ls b)) × Known events (ls b)) → (result ≡ true) × ScalarsTo h.old at base cap sig (chosen sig (λ b. noted h.old alive (d b) (ls b)) ls) (chosen sig (λ b. still 4 (d b + 1) (length (ls b))) d) h.new }
+    ensures done { (ls : ℕ → List ℕ) (d : ℕ → ℕ) → Scalars h.old at base cap ls d → ((b : ℕ) → b < 64 → has sig b ≡ 1 → (d b < length (ls b)) × Known events (ls b)) → IsOk result × ScalarsTo h.old at base cap sig (chosen sig (λ b. noted h.old alive (d b) (ls b)) ls) (chosen sig (λ b. still 4 (d b + 1) (length (ls b))) d) h.new }
 {
     let mut w = sig;
     while w != 0 {
         let b = lowest(w) as usize;
-        if !lists::scalar::note_dead(h, at + 2 * b, base + b * cap, cap, alive, events) {
-            return false;
-        }
+        lists::scalar::note_dead(h, at + 2 * b, base + b * cap, cap, alive, events)?;
         w = rest(w);
     }
-    true
+    Ok(())
 }
 
 // The entries after the event `after` of each list of sig, the signature of the axis.
@@ -73,9 +70,9 @@ pub fn scan_scalar(
     sig: u64,
     after: usize,
     budget: Budget,
-) -> Scan
+) -> Result<Scan, Corrupt>
     requires { ScalarRooms h.now at base cap × (sigs + events ≤ length h.now) × (axes + events * (2 * l) ≤ length h.now) × (length axis.now ≡ 2 * l) }
-    ensures { (s : State) → AllScannable s l events h.now at base cap sigs axes → sig ≡ signature l (of_row 0 axis.now).x (of_row 0 axis.now).z → result ≡ scan_of (walk (phase2 s after (of_row 0 axis.now).x (of_row 0 axis.now).z) budget.0) }
+    ensures { (s : State) → AllScannable s l events h.now at base cap sigs axes → sig ≡ signature l (of_row 0 axis.now).x (of_row 0 axis.now).z → result ≡ Ok (scan_of (walk (phase2 s after (of_row 0 axis.now).x (of_row 0 axis.now).z) budget.0)) }
 {
     let mut w = sig;
     let mut left = budget;
@@ -83,7 +80,7 @@ pub fn scan_scalar(
         let b = lowest(w) as usize;
         let len = h[at + 2 * b] as usize;
         if cap < len {
-            return Scan::Bad;
+            return Err(Corrupt);
         }
         match lists::scalar::scan(
             h,
@@ -98,17 +95,13 @@ pub fn scan_scalar(
             b,
             after,
             left,
-        ) {
-            Scan::Clear(now) => {
-                left = now;
-                w = rest(w);
-            }
-            Scan::Blocked(now) => return Scan::Blocked(now),
-            Scan::Out(now) => return Scan::Out(now),
-            Scan::Bad => return Scan::Bad,
+        )? {
+            Scan::Clear(now) => left = now,
+            stopped => return Ok(stopped),
         }
+        w = rest(w);
     }
-    Scan::Clear(left)
+    Ok(Scan::Clear(left))
 }
 
 // ---- sliced
@@ -123,24 +116,22 @@ pub fn push_sliced(
     id: u64,
     x: u64,
     z: u64,
-) -> bool
+) -> Result<(), Corrupt>
     requires { SlicedRooms h.old at base cap n × (x < 2 ^ n) × (z < 2 ^ n) }
     ensures long { length h.new ≡ length h.old }
-    ensures done { (ms : ℕ → List Entry) (d : ℕ → ℕ) → Sliceds h.old at base cap n ms d → ((b : ℕ) → b < n → has (bit_or x z) b ≡ 1 → length (ms b) < cap) → (result ≡ true) × SlicedsTo h.old at base cap n (bit_or x z) (chosen (bit_or x z) (λ b. pushed (fresh id x z) (ms b)) ms) d h.new }
+    ensures done { (ms : ℕ → List Entry) (d : ℕ → ℕ) → Sliceds h.old at base cap n ms d → ((b : ℕ) → b < n → has (bit_or x z) b ≡ 1 → length (ms b) < cap) → IsOk result × SlicedsTo h.old at base cap n (bit_or x z) (chosen (bit_or x z) (λ b. pushed (fresh id x z) (ms b)) ms) d h.new }
 {
     let mut w = x | z;
     if w == 0 {
-        return true;
+        return Ok(());
     }
     let size = cap + (cap + 63) / 64 * (2 * n) + (cap + 63) / 64;
     while w != 0 {
         let b = lowest(w) as usize;
-        if !sliced::sliced::push(h, at + 2 * b, base + b * size, cap, n, id, x, z) {
-            return false;
-        }
+        sliced::sliced::push(h, at + 2 * b, base + b * size, cap, n, id, x, z)?;
         w = rest(w);
     }
-    true
+    Ok(())
 }
 
 // The entry of event `id` is dead in each list of sig.
@@ -155,19 +146,19 @@ pub fn kill_sliced(
     alive: usize,
     axes: usize,
     events: usize,
-) -> bool
+) -> Result<(), Corrupt>
     requires { SlicedRooms h.old at base cap n × (sig < 2 ^ n) × (alive + words events ≤ at) × (axes + 2 * events ≤ at) }
     ensures long { length h.new ≡ length h.old }
-    ensures done { (ms : ℕ → List Entry) (d pos : ℕ → ℕ) → Sliceds h.old at base cap n ms d → ((b : ℕ) → b < n → has sig b ≡ 1 → (d b < length (ms b)) × RisingIds (ms b) × Source h.old n axes events (ms b) × (pos b < length (ms b)) × ((entry (ms b) (pos b)).id ≡ id)) → (result ≡ true) × SlicedsTo h.old at base cap n sig (chosen sig (λ b. killed_at h.old alive (d b) (pos b) (ms b)) ms) (chosen sig (λ b. still 2 (d b + 1) (length (ms b))) d) h.new }
+    ensures done { (ms : ℕ → List Entry) (d pos : ℕ → ℕ) → Sliceds h.old at base cap n ms d → ((b : ℕ) → b < n → has sig b ≡ 1 → (d b < length (ms b)) × RisingIds (ms b) × Source h.old n axes events (ms b) × (pos b < length (ms b)) × ((entry (ms b) (pos b)).id ≡ id)) → IsOk result × SlicedsTo h.old at base cap n sig (chosen sig (λ b. killed_at h.old alive (d b) (pos b) (ms b)) ms) (chosen sig (λ b. still 2 (d b + 1) (length (ms b))) d) h.new }
 {
     let mut w = sig;
     if w == 0 {
-        return true;
+        return Ok(());
     }
     let size = cap + (cap + 63) / 64 * (2 * n) + (cap + 63) / 64;
     while w != 0 {
         let b = lowest(w) as usize;
-        if !sliced::sliced::kill(
+        sliced::sliced::kill(
             h,
             at + 2 * b,
             base + b * size,
@@ -177,12 +168,10 @@ pub fn kill_sliced(
             alive,
             axes,
             events,
-        ) {
-            return false;
-        }
+        )?;
         w = rest(w);
     }
-    true
+    Ok(())
 }
 
 // The blocks after the event `after` in the list of each qubit of the axis (ax, az).
@@ -196,13 +185,13 @@ pub fn scan_sliced(
     ax: u64,
     az: u64,
     budget: Budget,
-) -> Scan
+) -> Result<Scan, Corrupt>
     requires { SlicedRooms h.now at base cap n × (ax < 2 ^ n) × (az < 2 ^ n) }
-    ensures { (s : State) → AllSliced s h.now at base cap n → result ≡ scan_of (walk (phase2 s after ax az) budget.0) }
+    ensures { (s : State) → AllSliced s h.now at base cap n → result ≡ Ok (scan_of (walk (phase2 s after ax az) budget.0)) }
 {
     let mut w = ax | az;
     if w == 0 {
-        return Scan::Clear(budget);
+        return Ok(Scan::Clear(budget));
     }
     let size = cap + (cap + 63) / 64 * (2 * n) + (cap + 63) / 64;
     let mut left = budget;
@@ -210,17 +199,13 @@ pub fn scan_sliced(
         let b = lowest(w) as usize;
         let len = h[at + 2 * b] as usize;
         if cap < len {
-            return Scan::Bad;
+            return Err(Corrupt);
         }
         match sliced::sliced::scan(h, base + b * size, cap, n, len, after, ax, az, left) {
-            Scan::Clear(now) => {
-                left = now;
-                w = rest(w);
-            }
-            Scan::Blocked(now) => return Scan::Blocked(now),
-            Scan::Out(now) => return Scan::Out(now),
-            Scan::Bad => return Scan::Bad,
+            Scan::Clear(now) => left = now,
+            stopped => return Ok(stopped),
         }
+        w = rest(w);
     }
-    Scan::Clear(left)
+    Ok(Scan::Clear(left))
 }

@@ -1,5 +1,6 @@
 -- `support::families::kill_scalar` meets its contract: the lists of the digits done have one more dead entry. Assumes nothing.
-use mathlib.Core.Bool.{Bool, true, not}
+use Rattle.std.specs.Prelude.{Result, IsOk, is_err}
+use Rattle.pauli.specs.declared.corrupt.Corrupt.{Corrupt}
 use mathlib.Core.Path.{◌≡◌, refl, ◌∙◌, subst, ap}
 use mathlib.Core.List.{List}
 use Prim.Native.Nat.{ℕ, ◌+◌, ◌*◌, ◌≤◌, ◌<◌}
@@ -29,12 +30,12 @@ Killing h₀ at base cap sig alive events w h =
     (ls : ℕ → List ℕ) (d : ℕ → ℕ) → Scalars h₀ at base cap ls d → Fit sig events ls d → Killed h₀ at base cap sig alive ls d w h
 
 -- a turn: the call does not fail, and the digit is done
-turn : (h₀ : List ℕ) (at base cap sig alive events w p : ℕ) (h g : List ℕ) (r : Bool) → at + 2 * 64 ≤ base → alive + words events ≤ at → Lowest w p → ((j : ℕ) → has w j ≡ 1 → has sig j ≡ 1)
+turn : (h₀ : List ℕ) (at base cap sig alive events w p : ℕ) (h g : List ℕ) (r : Result (Unit {0}) Corrupt) → at + 2 * 64 ≤ base → alive + words events ≤ at → Lowest w p → ((j : ℕ) → has w j ≡ 1 → has sig j ≡ 1)
     → Killing h₀ at base cap sig alive events w h
     → ((ids : List ℕ) (d : ℕ) → Scalar h (at + 2 * p) (base + p * cap) cap ids d → d < length ids → Known events ids
-    → (r ≡ true) × ScalarTo h (at + 2 * p) (base + p * cap) cap (noted h alive d ids) (still 4 (d + 1) (length ids)) g)
+    → IsOk r × ScalarTo h (at + 2 * p) (base + p * cap) cap (noted h alive d ids) (still 4 (d + 1) (length ids)) g)
     → (ls : ℕ → List ℕ) (d : ℕ → ℕ) → Scalars h₀ at base cap ls d → Fit sig events ls d
-    → (r ≡ true) × ((v : ℕ) → Took w p v → Killed h₀ at base cap sig alive ls d v g)
+    → IsOk r × ((v : ℕ) → Took w p v → Killed h₀ at base cap sig alive ls d v g)
 turn h₀ at base cap sig alive events w p h g r room live low sub inv call ls d all fit =
     let ys = chosen sig (λ b. noted h₀ alive (d b) (ls b)) ls in
     let e = chosen sig (λ b. still 4 (d b + 1) (length (ls b))) d in
@@ -57,16 +58,16 @@ taken c = c.rest-w.ensures c.lowest-b.result c.lowest-b.ensures
 
 turned : (c : After-note_dead) → let a = c.args in
     (ls : ℕ → List ℕ) (d : ℕ → ℕ) → Scalars a.h.now a.at a.base a.cap ls d → Fit a.sig a.events ls d
-    → (c.note_dead.result ≡ true) × ((v : ℕ) → Took c.loop-w.w c.lowest-b.result v
+    → IsOk c.note_dead.result × ((v : ℕ) → Took c.loop-w.w c.lowest-b.result v
     → Killed a.h.now a.at a.base a.cap a.sig a.alive ls d v c.note_dead.new.h)
 turned c =
     turn c.args.h.now c.args.at c.args.base c.args.cap c.args.sig c.args.alive c.args.events c.loop-w.w c.lowest-b.result c.loop-w.h c.note_dead.new.h c.note_dead.result
     c.requires.0.counts c.requires.1 c.lowest-b.ensures c.loop-w.invariant.1 c.loop-w.invariant.2 c.note_dead.ensures.done
 
-pub returns-then-not-note_dead-clause-done : goal.returns-then-not-note_dead-clause-done
-returns-then-not-note_dead-clause-done c =
-    let call = (goal.at.returns-then-not-note_dead-clause-done c).After-note_dead in
-    λ ls d all fit. absurd (refuses _ (ap not c.if-not-note_dead.true) (turned call ls d all fit).0)
+pub returns-in_err-note_dead-clause-done : goal.returns-in_err-note_dead-clause-done
+returns-in_err-note_dead-clause-done c =
+    let call = (goal.at.returns-in_err-note_dead-clause-done c).After-note_dead in
+    λ ls d all fit. absurd (refuses c.note_dead.result (ap is_err c.in_err-note_dead.was) (turned call ls d all fit).0)
 
 pub loop-w-preserved : goal.loop-w-preserved
 loop-w-preserved c =

@@ -1,5 +1,6 @@
 -- `support::families::kill_sliced` meets its contract: the entry of the event is dead in the lists of the digits done. Assumes nothing.
-use mathlib.Core.Bool.{Bool, true, not}
+use Rattle.std.specs.Prelude.{Result, IsOk, is_err}
+use Rattle.pauli.specs.declared.corrupt.Corrupt.{Corrupt}
 use mathlib.Core.Path.{◌≡◌, refl, ◌∙◌, subst, ap}
 use mathlib.Core.List.{List}
 use Prim.Native.Nat.{ℕ, ◌+◌, ◌*◌, ◌≤◌, ◌<◌}
@@ -35,12 +36,12 @@ Killing h₀ at base cap n sig id alive axes events w h =
     (ms : ℕ → List Entry) (d pos : ℕ → ℕ) → Sliceds h₀ at base cap n ms d → Fit h₀ n sig id axes events ms d pos → Killed h₀ at base cap n sig alive ms d pos w h
 
 -- a turn: the call does not fail, and the digit is done
-turn : (h₀ : List ℕ) (at base cap n sig id alive axes events w p : ℕ) (h g : List ℕ) (r : Bool) → at + 2 * n ≤ base → alive + words events ≤ at → axes + 2 * events ≤ at → p < n → Lowest w p
+turn : (h₀ : List ℕ) (at base cap n sig id alive axes events w p : ℕ) (h g : List ℕ) (r : Result (Unit {0}) Corrupt) → at + 2 * n ≤ base → alive + words events ≤ at → axes + 2 * events ≤ at → p < n → Lowest w p
     → ((j : ℕ) → has w j ≡ 1 → has sig j ≡ 1) → Killing h₀ at base cap n sig id alive axes events w h
     → ((m : List Entry) (d pos : ℕ) → Sliced h (at + 2 * p) (base + p * sliced_room cap n) cap n m d → d < length m → RisingIds m → Source h n axes events m → pos < length m → (entry m pos).id ≡ id
-    → (r ≡ true) × SlicedTo h (at + 2 * p) (base + p * sliced_room cap n) cap n (killed_at h alive d pos m) (still 2 (d + 1) (length m)) g)
+    → IsOk r × SlicedTo h (at + 2 * p) (base + p * sliced_room cap n) cap n (killed_at h alive d pos m) (still 2 (d + 1) (length m)) g)
     → (ms : ℕ → List Entry) (d pos : ℕ → ℕ) → Sliceds h₀ at base cap n ms d → Fit h₀ n sig id axes events ms d pos
-    → (r ≡ true) × ((v : ℕ) → Took w p v → Killed h₀ at base cap n sig alive ms d pos v g)
+    → IsOk r × ((v : ℕ) → Took w p v → Killed h₀ at base cap n sig alive ms d pos v g)
 turn h₀ at base cap n sig id alive axes events w p h g r room live axed l low sub inv call ms d pos all fit =
     let f = inv ms d pos all fit in
     let s = sub p low.one in
@@ -71,7 +72,7 @@ taken c = c.rest-w.ensures c.lowest-b.result c.lowest-b.ensures
 
 turned : (c : After-kill) → let a = c.args in
     (ms : ℕ → List Entry) (d pos : ℕ → ℕ) → Sliceds a.h.now a.at a.base a.cap a.n ms d → Fit a.h.now a.n a.sig a.id a.axes a.events ms d pos
-    → (c.kill.result ≡ true) × ((v : ℕ) → Took c.loop-w.w c.lowest-b.result v
+    → IsOk c.kill.result × ((v : ℕ) → Took c.loop-w.w c.lowest-b.result v
     → Killed a.h.now a.at a.base a.cap a.n a.sig a.alive ms d pos v c.kill.new.h)
 unfolding words
 turned c =
@@ -108,10 +109,10 @@ kill-requires c =
     let l = below (goal.at.kill-requires c).After-lowest-b in
     (record { counts = omega arith; fits = omega (arith, room (goal.at.kill-requires c).After-lowest-b) }, omega arith, omega arith, omega arith)
 
-pub returns-then-not-kill-clause-done : goal.returns-then-not-kill-clause-done
-returns-then-not-kill-clause-done c =
-    let call = (goal.at.returns-then-not-kill-clause-done c).After-kill in
-    λ ms d pos all fit. absurd (refuses _ (ap not c.if-not-kill.true) (turned call ms d pos all fit).0)
+pub returns-in_err-kill-clause-done : goal.returns-in_err-kill-clause-done
+returns-in_err-kill-clause-done c =
+    let call = (goal.at.returns-in_err-kill-clause-done c).After-kill in
+    λ ms d pos all fit. absurd (refuses c.kill.result (ap is_err c.in_err-kill.was) (turned call ms d pos all fit).0)
 
 pub loop-w-preserved : goal.loop-w-preserved
 loop-w-preserved c =

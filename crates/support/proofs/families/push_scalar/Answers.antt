@@ -1,5 +1,6 @@
 -- `support::families::push_scalar` meets its contract: the lists of the digits done have one more number. Assumes nothing.
-use mathlib.Core.Bool.{Bool, true, not}
+use Rattle.std.specs.Prelude.{Result, IsOk, is_err}
+use Rattle.pauli.specs.declared.corrupt.Corrupt.{Corrupt}
 use mathlib.Core.Path.{◌≡◌, refl, ◌∙◌, subst, ap}
 use mathlib.Core.List.{List}
 use Prim.Native.Nat.{ℕ, ◌+◌, ◌*◌, ◌≤◌, ◌<◌}
@@ -18,11 +19,11 @@ Pushing h₀ at base cap sig id w h = (ls : ℕ → List ℕ) (d : ℕ → ℕ) 
     → ScalarFamily at base cap sig ls (chosen sig (λ b. pushed id (ls b)) ls) d d h₀ w h
 
 -- a turn: the call does not fail, and the digit is done
-turn : (h₀ : List ℕ) (at base cap sig id w p : ℕ) (h g : List ℕ) (r : Bool) → at + 2 * 64 ≤ base → Lowest w p → ((j : ℕ) → has w j ≡ 1 → has sig j ≡ 1)
+turn : (h₀ : List ℕ) (at base cap sig id w p : ℕ) (h g : List ℕ) (r : Result (Unit {0}) Corrupt) → at + 2 * 64 ≤ base → Lowest w p → ((j : ℕ) → has w j ≡ 1 → has sig j ≡ 1)
     → Pushing h₀ at base cap sig id w h
-    → ((ids : List ℕ) (d : ℕ) → Scalar h (at + 2 * p) (base + p * cap) cap ids d → length ids < cap → (r ≡ true) × ScalarTo h (at + 2 * p) (base + p * cap) cap (pushed id ids) d g)
+    → ((ids : List ℕ) (d : ℕ) → Scalar h (at + 2 * p) (base + p * cap) cap ids d → length ids < cap → IsOk r × ScalarTo h (at + 2 * p) (base + p * cap) cap (pushed id ids) d g)
     → (ls : ℕ → List ℕ) (d : ℕ → ℕ) → Scalars h₀ at base cap ls d → ((b : ℕ) → b < 64 → has sig b ≡ 1 → length (ls b) < cap)
-    → (r ≡ true) × ((v : ℕ) → Took w p v → ScalarFamily at base cap sig ls (chosen sig (λ b. pushed id (ls b)) ls) d d h₀ v g)
+    → IsOk r × ((v : ℕ) → Took w p v → ScalarFamily at base cap sig ls (chosen sig (λ b. pushed id (ls b)) ls) d d h₀ v g)
 turn h₀ at base cap sig id w p h g r room low sub inv call ls d all few =
     let f = inv ls d all few in
     let s = sub p low.one in
@@ -41,16 +42,16 @@ taken c = c.rest-w.ensures c.lowest-b.result c.lowest-b.ensures
 
 turned : (c : After-push) → let a = c.args in
     (ls : ℕ → List ℕ) (d : ℕ → ℕ) → Scalars a.h.now a.at a.base a.cap ls d → ((b : ℕ) → b < 64 → has a.sig b ≡ 1 → length (ls b) < a.cap)
-    → (c.push.result ≡ true) × ((v : ℕ) → Took c.loop-w.w c.lowest-b.result v
+    → IsOk c.push.result × ((v : ℕ) → Took c.loop-w.w c.lowest-b.result v
     → ScalarFamily a.at a.base a.cap a.sig ls (chosen a.sig (λ b. pushed a.id (ls b)) ls) d d a.h.now v c.push.new.h)
 turned c =
     turn c.args.h.now c.args.at c.args.base c.args.cap c.args.sig c.args.id c.loop-w.w c.lowest-b.result c.loop-w.h c.push.new.h c.push.result
     c.requires.counts c.lowest-b.ensures c.loop-w.invariant.1 c.loop-w.invariant.2 c.push.ensures.done
 
-pub returns-then-not-push-clause-done : goal.returns-then-not-push-clause-done
-returns-then-not-push-clause-done c =
-    let call = (goal.at.returns-then-not-push-clause-done c).After-push in
-    λ ls d all few. absurd (refuses _ (ap not c.if-not-push.true) (turned call ls d all few).0)
+pub returns-in_err-push-clause-done : goal.returns-in_err-push-clause-done
+returns-in_err-push-clause-done c =
+    let call = (goal.at.returns-in_err-push-clause-done c).After-push in
+    λ ls d all few. absurd (refuses c.push.result (ap is_err c.in_err-push.was) (turned call ls d all few).0)
 
 pub loop-w-preserved : goal.loop-w-preserved
 loop-w-preserved c =

@@ -1,5 +1,6 @@
 -- `support::families::push_sliced` meets its contract: the lists of the digits done have one more entry. Assumes nothing.
-use mathlib.Core.Bool.{Bool, true, not}
+use Rattle.std.specs.Prelude.{Result, IsOk, is_err}
+use Rattle.pauli.specs.declared.corrupt.Corrupt.{Corrupt}
 use mathlib.Core.Path.{◌≡◌, refl, ◌∙◌, subst, ap}
 use mathlib.Core.List.{List}
 use Prim.Native.Nat.{ℕ, ◌+◌, ◌*◌, ◌≤◌, ◌<◌}
@@ -31,12 +32,12 @@ abbrev Pushing : List ℕ → (at base cap n id x z w : ℕ) → List ℕ → Ty
 Pushing h₀ at base cap n id x z w h = (ms : ℕ → List Entry) (d : ℕ → ℕ) → Sliceds h₀ at base cap n ms d → Fit cap n x z ms → Pushed h₀ at base cap n id x z ms d w h
 
 -- a turn: the call does not fail, and the digit is done
-turn : (h₀ : List ℕ) (at base cap n id x z w p : ℕ) (h g : List ℕ) (r : Bool) → at + 2 * n ≤ base → p < n → Lowest w p → ((j : ℕ) → has w j ≡ 1 → has (bit_or x z) j ≡ 1)
+turn : (h₀ : List ℕ) (at base cap n id x z w p : ℕ) (h g : List ℕ) (r : Result (Unit {0}) Corrupt) → at + 2 * n ≤ base → p < n → Lowest w p → ((j : ℕ) → has w j ≡ 1 → has (bit_or x z) j ≡ 1)
     → Pushing h₀ at base cap n id x z w h
     → ((m : List Entry) (d : ℕ) → Sliced h (at + 2 * p) (base + p * sliced_room cap n) cap n m d → length m < cap
-    → (r ≡ true) × SlicedTo h (at + 2 * p) (base + p * sliced_room cap n) cap n (pushed (fresh id x z) m) d g)
+    → IsOk r × SlicedTo h (at + 2 * p) (base + p * sliced_room cap n) cap n (pushed (fresh id x z) m) d g)
     → (ms : ℕ → List Entry) (d : ℕ → ℕ) → Sliceds h₀ at base cap n ms d → Fit cap n x z ms
-    → (r ≡ true) × ((v : ℕ) → Took w p v → Pushed h₀ at base cap n id x z ms d v g)
+    → IsOk r × ((v : ℕ) → Took w p v → Pushed h₀ at base cap n id x z ms d v g)
 turn h₀ at base cap n id x z w p h g r room l low sub inv call ms d all fit =
     let f = inv ms d all fit in
     let s = sub p low.one in
@@ -64,7 +65,7 @@ taken c = c.rest-w.ensures c.lowest-b.result c.lowest-b.ensures
 
 turned : (c : After-push) → let a = c.args in
     (ms : ℕ → List Entry) (d : ℕ → ℕ) → Sliceds a.h.now a.at a.base a.cap a.n ms d → Fit a.cap a.n a.x a.z ms
-    → (c.push.result ≡ true) × ((v : ℕ) → Took c.loop-w.w c.lowest-b.result v
+    → IsOk c.push.result × ((v : ℕ) → Took c.loop-w.w c.lowest-b.result v
     → Pushed a.h.now a.at a.base a.cap a.n a.id a.x a.z ms d v c.push.new.h)
 unfolding words
 turned c =
@@ -101,10 +102,10 @@ push-requires c =
     let l = below (goal.at.push-requires c).After-lowest-b in
     (record { counts = omega arith; fits = omega (arith, room (goal.at.push-requires c).After-lowest-b) }, omega arith, c.requires.1, c.requires.2)
 
-pub returns-then-not-push-clause-done : goal.returns-then-not-push-clause-done
-returns-then-not-push-clause-done c =
-    let call = (goal.at.returns-then-not-push-clause-done c).After-push in
-    λ ms d all fit. absurd (refuses _ (ap not c.if-not-push.true) (turned call ms d all fit).0)
+pub returns-in_err-push-clause-done : goal.returns-in_err-push-clause-done
+returns-in_err-push-clause-done c =
+    let call = (goal.at.returns-in_err-push-clause-done c).After-push in
+    λ ms d all fit. absurd (refuses c.push.result (ap is_err c.in_err-push.was) (turned call ms d all fit).0)
 
 pub loop-w-preserved : goal.loop-w-preserved
 loop-w-preserved c =

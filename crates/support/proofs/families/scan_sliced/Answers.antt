@@ -1,5 +1,6 @@
 -- `support::families::scan_sliced` meets its contract: the whole scan is that of the digits left, with the steps left. Assumes nothing.
-use mathlib.Core.Path.{◌≡◌, sym, ◌∙◌, subst}
+use mathlib.Core.Path.{◌≡◌, refl, sym, ap, ◌∙◌, subst}
+use Rattle.std.specs.Prelude.{Ok}
 use mathlib.Core.List.{List, map}
 use Prim.Native.Nat.{ℕ, ◌+◌, ◌*◌, ◌≤◌, ◌<◌}
 use lib.ListN.{length, get_or, length-map}
@@ -9,13 +10,13 @@ use Rattle.model.specs.Search.{Work, walk, list_at, phase2, sliced_list}
 use Rattle.pauli.specs.Digits.{Took}
 use Rattle.lists.specs.declared.budget.Budget.{Budget}
 use Rattle.lists.specs.declared.budget.Scan.{Scan}
-use Rattle.lists.specs.declared.budget.Scan.TheVariants.{Clear, Blocked, Out}
+use Rattle.lists.specs.declared.budget.Scan.TheVariants.{Clear}
 use Rattle.lists.specs.Lists.{Rises}
 use Rattle.sliced.specs.Blocks.{entry_of, sliced_room, Reps}
 use Rattle.lists.specs.Scans.{scan_of}
 use Rattle.support.specs.Families.{AllSliced}
 use Rattle.support.proofs.FamilyLaws.{size_of, one_fits, room_fits, or_some_qubit, or_digit_below, still_within}
-use Rattle.support.proofs.PhaseLaws.{quiet, one_plane, Phase, Phase-none, Phase-end, Phase-clear, phase_ends, never_bad, blocked_other, out_other, qubit_digit, sliced_phase}
+use Rattle.support.proofs.PhaseLaws.{quiet, one_plane, Phase, Phase-none, Phase-end, Phase-clear, phase_ends, qubit_digit, sliced_phase}
 use native.Mathlib.Omega.{arith}
 use Rattle.support.proofs.families.scan_sliced.Goals as goal
 use Rattle.support.proofs.families.scan_sliced.Goals.{After-lowest-b, After-rest-w, After-scan, Else-w-eq0}
@@ -80,7 +81,7 @@ taken : (c : After-rest-w) → Took c.loop-w.w c.lowest-b.result c.rest-w.result
 taken c = c.rest-w.ensures c.lowest-b.result c.lowest-b.ensures
 
 pub returns-then-w-eq0 : goal.returns-then-w-eq0
-returns-then-w-eq0 c = let a = c.args in λ s all. quiet s a.after a.ax a.az a.budget c.if-w-eq0.true
+returns-then-w-eq0 c = let a = c.args in λ s all. ap Ok (quiet s a.after a.ax a.az a.budget c.if-w-eq0.true)
 
 pub overflow_add-size : goal.overflow_add-size
 overflow_add-size c = omega (arith, size c)
@@ -125,17 +126,11 @@ loop-w-preserved c =
           low.ensures (below (goal.at.loop-w-preserved c).After-lowest-b) c.rest-w.result c.in-Clear.now (taken c) (sym c.in-Clear.is ∙ answered call s all),
     )
 
-pub returns-in-Blocked : goal.returns-in-Blocked
-returns-in-Blocked c = ends (goal.at.returns-in-Blocked c).After-scan (Blocked c.in-Blocked.now) c.in-Blocked.is (blocked_other c.in-Blocked.now)
-
-pub returns-in-Out : goal.returns-in-Out
-returns-in-Out c = ends (goal.at.returns-in-Out c).After-scan (Out c.in-Out.now) c.in-Out.is (out_other c.in-Out.now)
-
-pub returns-in-Bad : goal.returns-in-Bad
-returns-in-Bad c = λ s all. never_bad _ (sym c.in-Bad.is ∙ answered (goal.at.returns-in-Bad c).After-scan s all)
+pub returns-in_default : goal.returns-in_default
+returns-in_default c = λ s all. ap Ok (ends (goal.at.returns-in_default c).After-scan c.scan.result refl c.in_default.not-Clear s all)
 
 pub returns : goal.returns
 returns c =
     let a = c.args in
-    λ s all. Phase-end (sliced_list s a.after a.ax a.az) (touches 1 a.ax a.az) a.n (walk (phase2 s a.after a.ax a.az) a.budget.0) c.loop-w.left
-    (subst (λ (w : ℕ). Scanned s a.n a.after a.ax a.az a.budget.0 w c.loop-w.left.0) c.loop-w-test.false (c.loop-w.invariant.1 s all))
+    λ s all. ap Ok (Phase-end (sliced_list s a.after a.ax a.az) (touches 1 a.ax a.az) a.n (walk (phase2 s a.after a.ax a.az) a.budget.0) c.loop-w.left
+    (subst (λ (w : ℕ). Scanned s a.n a.after a.ax a.az a.budget.0 w c.loop-w.left.0) c.loop-w-test.false (c.loop-w.invariant.1 s all)))
