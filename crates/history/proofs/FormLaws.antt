@@ -15,6 +15,8 @@ use lib.Pow.{pow_pos, pow_mono}
 use lib.Dec.{eqb, ltb}
 use borrow.Author.Tests.{eq-eqb, ne_eqb, eqb-true, eqb-false}
 use Rattle.model.specs.Events as model
+use Rattle.std.specs.Prelude.{Result, IsOk}
+use Rattle.pauli.specs.declared.corrupt.Corrupt.{Corrupt}
 use Rattle.model.specs.Pauli.{has}
 use Rattle.model.specs.Events.{Event, State, words, plane, keep, touches, event_at, live_at, record1, kill, killed, dead, factor, tidy}
 use Rattle.model.specs.Search.{list_at}
@@ -253,14 +255,14 @@ module _ (m : State) (e : Event) where
         go false = sym entry_old
 
 -- what a record does, answering r
-abbrev pub Pushes : model.Form → (n cap l : ℕ) → (h g axis : List ℕ) → (id sig : ℕ) → Bool → Type 0
+abbrev pub Pushes : model.Form → (n cap l : ℕ) → (h g axis : List ℕ) → (id sig : ℕ) → Result (Unit {0}) Corrupt → Type 0
 Pushes f n cap l h g axis id sig r =
-    (m : State) (e : Event) → ListsHeld f n cap l m h → length m.events ≡ id → id < cap → Newcomer n l axis sig e → (r ≡ true) × ListsTo f n cap l (record1 e m) h g
+    (m : State) (e : Event) → ListsHeld f n cap l m h → length m.events ≡ id → id < cap → Newcomer n l axis sig e → IsOk r × ListsTo f n cap l (record1 e m) h g
 
 -- a record in the scalar form
-pub push_Scalars : (n cap l : ℕ) (h g axis : List ℕ) (id sig : ℕ) (r : Bool)
+pub push_Scalars : (n cap l : ℕ) (h g axis : List ℕ) (id sig : ℕ) (r : Result (Unit {0}) Corrupt)
     → ((ls : ℕ → List ℕ) (d : ℕ → ℕ) → Scalars h (count_place cap l) (list_place model.scalar n cap l) cap ls d → ((b : ℕ) → b < 64 → has sig b ≡ 1 → length (ls b) < cap)
-    → (r ≡ true) × ScalarsTo h (count_place cap l) (list_place model.scalar n cap l) cap sig (chosen sig (λ b. pushed id (ls b)) ls) d g)
+    → IsOk r × ScalarsTo h (count_place cap l) (list_place model.scalar n cap l) cap sig (chosen sig (λ b. pushed id (ls b)) ls) d g)
     → Pushes model.scalar n cap l h g axis id sig r
 push_Scalars n cap l h g axis id sig r call m e held count room new =
     let to = call (list_at m) (dead_in m) held.lists (λ b k o. omega (arith, list_short m held.listed b)) in
@@ -277,10 +279,10 @@ push_Scalars n cap l h g axis id sig r call m e held count room new =
         ∙ sym (record_list m e b (inside b k))
 
 -- a record in the sliced form
-pub push_Sliceds : (n cap l : ℕ) (h g axis : List ℕ) (id sig : ℕ) (r : Bool) → l ≡ 1 → length axis ≡ 2 * l
+pub push_Sliceds : (n cap l : ℕ) (h g axis : List ℕ) (id sig : ℕ) (r : Result (Unit {0}) Corrupt) → l ≡ 1 → length axis ≡ 2 * l
     → ((ms : ℕ → List Entry) (d : ℕ → ℕ) → Sliceds h (count_place cap l) (list_place model.sliced n cap l) cap n ms d
     → ((b : ℕ) → b < n → has (bit_or (get_or axis 0 0) (get_or axis 1 0)) b ≡ 1 → length (ms b) < cap)
-    → (r ≡ true) × SlicedsTo h (count_place cap l) (list_place model.sliced n cap l) cap n (bit_or (get_or axis 0 0) (get_or axis 1 0))
+    → IsOk r × SlicedsTo h (count_place cap l) (list_place model.sliced n cap l) cap n (bit_or (get_or axis 0 0) (get_or axis 1 0))
     (chosen (bit_or (get_or axis 0 0) (get_or axis 1 0)) (λ b. pushed (fresh id (get_or axis 0 0) (get_or axis 1 0)) (ms b)) ms) d g)
     → Pushes model.sliced n cap l h g axis id sig r
 push_Sliceds n cap l h g axis id sig r one long call m e held count room new =
@@ -575,9 +577,9 @@ module _ (m : State) (id : ℕ) (there : id < length m.events) (live : live_at m
       inside n g = unfold words in omega arith
 
 -- what a kill does, answering r
-abbrev pub Kills : model.Form → (n cap l : ℕ) → (h g : List ℕ) → (id sig events : ℕ) → Bool → Type 0
+abbrev pub Kills : model.Form → (n cap l : ℕ) → (h g : List ℕ) → (id sig events : ℕ) → Result (Unit {0}) Corrupt → Type 0
 Kills f n cap l h g id sig events r =
-    (m : State) → ListsHeld f n cap l m h → length m.events ≡ events → Leaving n cap l m id sig h → (r ≡ true) × ListsTo f n cap l (kill id m) h g
+    (m : State) → ListsHeld f n cap l m h → length m.events ≡ events → Leaving n cap l m id sig h → IsOk r × ListsTo f n cap l (kill id m) h g
 
 -- the digits of the signature
 Leaving-Digits : (f : model.Form) (n cap l id sig : ℕ) (h : List ℕ) (m : State) → ListsHeld f n cap l m h → Leaving n cap l m id sig h
@@ -587,10 +589,10 @@ Leaving-Digits f n cap l id sig h m held go b k =
     ∙ ap (λ (p : ℕ). touches p (event_at m.events id).x (event_at m.events id).z b) (sym held.given.planes)
 
 -- a kill in the scalar form
-pub kill_Scalars : (n cap l : ℕ) (h g : List ℕ) (id sig events : ℕ) (r : Bool)
+pub kill_Scalars : (n cap l : ℕ) (h g : List ℕ) (id sig events : ℕ) (r : Result (Unit {0}) Corrupt)
     → ((ls : ℕ → List ℕ) (d : ℕ → ℕ) → Scalars h (count_place cap l) (list_place model.scalar n cap l) cap ls d
     → ((b : ℕ) → b < 64 → has sig b ≡ 1 → (d b < length (ls b)) × Known events (ls b))
-    → (r ≡ true) × ScalarsTo h (count_place cap l) (list_place model.scalar n cap l) cap sig
+    → IsOk r × ScalarsTo h (count_place cap l) (list_place model.scalar n cap l) cap sig
     (chosen sig (λ b. noted h (alive_place cap l) (d b) (ls b)) ls) (chosen sig (λ b. still 4 (d b + 1) (length (ls b))) d) g)
     → Kills model.scalar n cap l h g id sig events r
 kill_Scalars n cap l h g id sig events r call m held count lv =
@@ -643,10 +645,10 @@ module _ (es : List Event) (h : List ℕ) (axes l : ℕ) (one : l ≡ 1) (a : Ax
       ap (λ (k : ℕ). get_or h k 0) q ∙ sym (one_word h (axes + i * (2 * 1) + 1)) ∙ ap (λ (k : ℕ). value_at h (axes + i * (2 * k) + k) k) (sym one) ∙ a.zs i g
 
 -- a kill in the sliced form
-pub kill_Sliceds : (n cap l : ℕ) (h g : List ℕ) (id sig events : ℕ) (r : Bool) → n ≤ 32 → l ≡ 1
+pub kill_Sliceds : (n cap l : ℕ) (h g : List ℕ) (id sig events : ℕ) (r : Result (Unit {0}) Corrupt) → n ≤ 32 → l ≡ 1
     → ((ms : ℕ → List Entry) (d pos : ℕ → ℕ) → Sliceds h (count_place cap l) (list_place model.sliced n cap l) cap n ms d
     → ((b : ℕ) → b < n → has sig b ≡ 1 → (d b < length (ms b)) × RisingIds (ms b) × Source h n (axis_place cap) events (ms b) × (pos b < length (ms b)) × ((entry (ms b) (pos b)).id ≡ id))
-    → (r ≡ true) × SlicedsTo h (count_place cap l) (list_place model.sliced n cap l) cap n sig
+    → IsOk r × SlicedsTo h (count_place cap l) (list_place model.sliced n cap l) cap n sig
     (chosen sig (λ b. killed_at h (alive_place cap l) (d b) (pos b) (ms b)) ms) (chosen sig (λ b. still 2 (d b + 1) (length (ms b))) d) g)
     → Kills model.sliced n cap l h g id sig events r
 kill_Sliceds n cap l h g id sig events r few one call m held count lv =

@@ -8,6 +8,8 @@ use Prim.Native.Nat.{ℕ, ◌+◌, ◌/◌, ◌^◌, ◌≤◌, ◌<◌}
 use native.Mathlib.Omega.{arith}
 use lib.ListN.{length, get_or, set, length-set, length-map}
 use lib.IntN.{ℤ}
+use Rattle.std.specs.Prelude.{Result, IsOk}
+use Rattle.pauli.specs.declared.corrupt.Corrupt.{Corrupt}
 use Rattle.model.specs.Events as model
 use Rattle.model.specs.Events.{Body, rotation, blocker, Event, State, words, event_at, live_at, is_rotation, killed, kill, tidy}
 use Rattle.model.specs.Calls.{reading, not_readable, not_killable}
@@ -167,10 +169,10 @@ module _ (f : model.Form) (n cap l id : ℕ) (m : State) (h g : List ℕ) (holds
     }
 
 -- the death, then the lists
-pub kill-Done : (f : model.Form) (n cap l id : ℕ) (h g e : List ℕ) (s r : Bool)
+pub kill-Done : (f : model.Form) (n cap l id : ℕ) (h g e : List ℕ) (s : Bool) (r : Result (Unit {0}) Corrupt)
     → ((es : List Event) → EventsHeld cap l es h → length es ≤ cap → Dying es id → (s ≡ true) × Gone cap l es id h g)
-    → ((m : State) → ListsHeld f n cap l m g → length m.events ≡ get_or h 0 0 → Leaving n cap l m id (get_or h (sig_place cap + id) 0) g → (r ≡ true) × ListsTo f n cap l (kill id m) g e)
-    → (m : State) → Holds f n cap l m h → Sane m → Dying m.events id → (r ≡ true) × Becomes f n cap l (kill id m) h e
+    → ((m : State) → ListsHeld f n cap l m g → length m.events ≡ get_or h 0 0 → Leaving n cap l m id (get_or h (sig_place cap + id) 0) g → IsOk r × ListsTo f n cap l (kill id m) g e)
+    → (m : State) → Holds f n cap l m h → Sane m → Dying m.events id → IsOk r × Becomes f n cap l (kill id m) h e
 kill-Done f n cap l id h g e s r drop lists m holds sane d =
     let w = (drop m.events (events_held f n cap l m h holds) holds.room d).1 in
     let t = lists m (dying_lists f n cap l id m h g holds sane d w) (sym holds.count) (dying_leaves f n cap l id m h g holds sane d w) in

@@ -18,6 +18,9 @@ use Rattle.model.proofs.Good.{live_there}
 use Rattle.pauli.proofs.Signs.{bits8, bits8_sign}
 use Rattle.lists.specs.Scans.{steps, scan_of}
 use Rattle.lists.specs.declared.budget.Budget.{Budget}
+use Rattle.std.specs.Prelude.{Result, Ok}
+use Rattle.pauli.specs.declared.corrupt.Corrupt.{Corrupt}
+use Rattle.lists.proofs.ScanLaws.{same_answer}
 use Rattle.lists.specs.declared.budget.Scan.{Scan}
 use Rattle.lists.specs.declared.budget.Scan.TheVariants as scans
 use Rattle.history.specs.declared.search.Cand.{Cand}
@@ -106,18 +109,11 @@ walk_bad r (done k) b e = let q : ◌≡◌ {A = ℕ} 0 1 = cc in omega arith
 walk_bad r (stopped i k) b e = let q : ◌≡◌ {A = ℕ} 0 1 = cc in omega arith
 walk_bad r (dry k) b e = let q : ◌≡◌ {A = ℕ} 0 1 = cc in omega arith
 
-pub scan_bad : (r : Scan) (w : Walk) → r ≡ scans.Bad → r ≡ scan_of w → ⊥
-unfolding scan_of
-scan_bad r (done k) b e = let q : ◌≡◌ {A = ℕ} 0 1 = cc in omega arith
-scan_bad r (stopped i k) b e = let q : ◌≡◌ {A = ℕ} 0 1 = cc in omega arith
-scan_bad r (dry k) b e = let q : ◌≡◌ {A = ℕ} 0 1 = cc in omega arith
-
 -- what the second phase's answer makes of a look
 abbrev looking : State → (g : ℤ) → (id : ℕ) → Scan → search.Look
 looking m g id (scans.Clear left) = search.found id (sign_at (event_at m.events id).body *ℤ g) (search.spent m left.0)
 looking m g id (scans.Blocked left) = search.blocked (search.spent m left.0)
 looking m g id (scans.Out left) = search.out (search.spent m left.0)
-looking m g id scans.Bad = search.out 0
 
 looked_by : (m : State) (g : ℤ) (id : ℕ) (w : Walk) → looked2 m g id w ≡ looking m g id (scan_of w)
 unfolding looked2 scan_of steps
@@ -153,10 +149,13 @@ module _ (m : State) (g : ℤ) (a : Label) (x z allowance : ℕ) (given : m.give
   look_out left s e q = sym (ap look_of (by_one (cands.Out left) e) ∙ ap Exhausted (spent_is s left.0 q))
 
   -- t is the answer of phase 2, at the event that phase 1 found
-  module _ (id : ℕ) (left : Budget) (e : r ≡ cands.Match id left) (t : Scan) (two : t ≡ scan_of (walk (phase2 m id x z) left.0)) where
+  module _ (id : ℕ) (left : Budget) (e : r ≡ cands.Match id left) (u : Result Scan Corrupt) (two : u ≡ Ok (scan_of (walk (phase2 m id x z) left.0))) (t : Scan) (scanned : u ≡ Ok t) where
+    two_is : t ≡ scan_of (walk (phase2 m id x z) left.0)
+    two_is = same_answer u t (scan_of (walk (phase2 m id x z) left.0)) scanned two
+
     by_two : (c : Scan) → t ≡ c → look_for m g a x z ≡ looking m g id c
     unfolding looked1
-    by_two c q = by_one (cands.Match id left) e ∙ looked_by m g id (walk (phase2 m id x z) left.0) ∙ ap (looking m g id) (sym two ∙ q)
+    by_two c q = by_one (cands.Match id left) e ∙ looked_by m g id (walk (phase2 m id x z) left.0) ∙ ap (looking m g id) (sym two_is ∙ q)
 
     pub look_blocked : (rest : Budget) (s : ℕ) → t ≡ scans.Blocked rest → s ≡ allowance - rest.0 → Blocked s ≡ look_of (look_for m g a x z)
     unfolding look_of

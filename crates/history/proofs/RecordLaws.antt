@@ -1,7 +1,8 @@
 -- Laws of a record: after all its writes the words hold the state with the event. Assumes nothing.
 use mathlib.Core.Path.{◌≡◌, sym, ap, ◌∙◌, subst}
 use mathlib.Core.Logic.{inl, inr, ⊎_elim}
-use mathlib.Core.Bool.{Bool, true}
+use Rattle.std.specs.Prelude.{Result, IsOk}
+use Rattle.pauli.specs.declared.corrupt.Corrupt.{Corrupt}
 use mathlib.Core.List.{List, [], ◌∷◌, ◌++◌}
 use Prim.Native.Nat.{ℕ, ◌+◌, ◌*◌, ◌/◌, ◌≤◌, ◌<◌}
 use native.Mathlib.Omega.{arith}
@@ -111,17 +112,17 @@ module _ (f : model.Form) (n cap l : ℕ) (m : State) (e : Event) (h g₁ g₂ :
 
 -- ---- the calls of `record`, one after the other
 
-module _ (f : model.Form) (n cap l sig : ℕ) (axis : List ℕ) (body : Body) (h g₁ g₂ : List ℕ) (r : Bool) (signed : sig ≡ signature l (of_row 0 axis).x (of_row 0 axis).z)
+module _ (f : model.Form) (n cap l sig : ℕ) (axis : List ℕ) (body : Body) (h g₁ g₂ : List ℕ) (r : Result (Unit {0}) Corrupt) (signed : sig ≡ signature l (of_row 0 axis).x (of_row 0 axis).z)
     (put : (es : List Event) (e : Event) → EventsHeld cap l es h → length es ≡ get_or h 0 0 → Fresh l axis sig body e → Stored cap l es e h g₁)
-    (push : (m : State) (e : Event) → ListsHeld f n cap l m g₁ → length m.events ≡ get_or h 0 0 → get_or h 0 0 < cap → Newcomer n l axis sig e → (r ≡ true) × ListsTo f n cap l (record1 e m) g₁ g₂)
+    (push : (m : State) (e : Event) → ListsHeld f n cap l m g₁ → length m.events ≡ get_or h 0 0 → get_or h 0 0 < cap → Newcomer n l axis sig e → IsOk r × ListsTo f n cap l (record1 e m) g₁ g₂)
     (m : State) (e : Event) (c : Holds f n cap l m h) (s : Sane m) (room : length m.events < cap) (new : Recorded n axis body e) where
   put_first : Stored cap l m.events e h g₁
   put_first = put m.events e (events_held f n cap l m h c) (sym c.count) (fresh n l axis sig body e signed new)
 
-  push_then : (r ≡ true) × ListsTo f n cap l (record1 e m) g₁ g₂
+  push_then : IsOk r × ListsTo f n cap l (record1 e m) g₁ g₂
   push_then = push m e (lists_held f n cap l m e h g₁ c s room put_first) (sym c.count) (omega (arith, c.count)) (newcomer n l axis sig body e signed new)
 
-  pub record_goes : r ≡ true
+  pub record_goes : IsOk r
   record_goes = push_then.0
 
   pub record_ends : (numbered (get_or h 0 0) ≡ numbered (length m.events)) × Becomes f n cap l (record1 e m) h (set g₂ 0 (get_or h 0 0 + 1))

@@ -20,6 +20,8 @@ use Rattle.lists.specs.Lists.{Rises, Known}
 use Rattle.sliced.specs.Blocks.{entry_of}
 use Rattle.lists.specs.Scans.{scan_of, Touched}
 use Rattle.support.specs.Families.{AllScannable, AllSliced}
+use Rattle.std.specs.Prelude.{Result, Ok}
+use Rattle.pauli.specs.declared.corrupt.Corrupt.{Corrupt}
 use Rattle.lists.specs.declared.budget.Scan.{Scan}
 use Rattle.history.specs.declared.forms.Form.{Form}
 use Rattle.history.specs.declared.forms.Form.TheVariants.{Scalar, Sliced}
@@ -135,6 +137,6 @@ module _ (axis : List ℕ) (l : ℕ) (long : length axis ≡ 2 * l) (one : l ≡
   narrow_small n x z =
       div-eq_of_lt (or_lt n (get_or axis 0 0) (get_or axis 1 0) (subst (λ (k : ℕ). k < 2 ^ n) narrow_x x) (subst (λ (k : ℕ). k < 2 ^ n) narrow_z z))
 
-  pub narrow_scan : (m : State) (after k : ℕ) (r : Scan) → r ≡ scan_of (walk (phase2 m after (get_or axis 0 0) (get_or axis 1 0)) k)
-      → r ≡ scan_of (walk (phase2 m after (of_row 0 axis).x (of_row 0 axis).z) k)
-  narrow_scan m after k r e = e ∙ ap₂ (λ (x z : ℕ). scan_of (walk (phase2 m after x z) k)) (sym narrow_x) (sym narrow_z)
+  pub narrow_scan : (m : State) (after k : ℕ) (r : Result Scan Corrupt) → r ≡ Ok (scan_of (walk (phase2 m after (get_or axis 0 0) (get_or axis 1 0)) k))
+      → r ≡ Ok (scan_of (walk (phase2 m after (of_row 0 axis).x (of_row 0 axis).z) k))
+  narrow_scan m after k r e = e ∙ ap₂ (λ (x z : ℕ). Ok (scan_of (walk (phase2 m after x z) k))) (sym narrow_x) (sym narrow_z)

@@ -6,17 +6,16 @@ use lib.Dec.{ltb}
 use borrow.Author.Tests.{ltb-true, ltb-false}
 use Rattle.lists.specs.Scans.{steps, spend_of}
 use Rattle.lists.specs.declared.budget.Budget.{Budget}
-use Rattle.lists.specs.declared.budget.Spent.{Spent}
-use Rattle.lists.specs.declared.budget.Spent.TheVariants.{Left, Short}
+use Rattle.std.specs.Prelude.{Option, Some, None}
 
-abbrev Told : Budget → (cost : ℕ) → Spent → Type 0
-Told b cost (Left r) = (cost ≤ b.0) × (r.0 ≡ b.0 - cost)
-Told b cost Short = b.0 < cost
+abbrev Told : Budget → (cost : ℕ) → Option Budget → Type 0
+Told b cost (Some r) = (cost ≤ b.0) × (r.0 ≡ b.0 - cost)
+Told b cost None = b.0 < cost
 
-pub spend_Told : (b : Budget) (cost : ℕ) (r : Spent) → r ≡ spend_of b cost → Told b cost r
+pub spend_Told : (b : Budget) (cost : ℕ) (r : Option Budget) → r ≡ spend_of b cost → Told b cost r
 unfolding spend_of steps
 spend_Told b cost r e = subst (Told b cost) (sym e) (go (ltb b.0 cost) refl)
   where
-    go : (t : Bool) → ltb b.0 cost ≡ t → Told b cost (cond t Short (Left (record { 0 = b.0 - cost })))
+    go : (t : Bool) → ltb b.0 cost ≡ t → Told b cost (cond t None (Some (record { 0 = b.0 - cost })))
     go true q = ltb-true _ _ q
     go false q = (ltb-false _ _ q, refl)

@@ -1,5 +1,5 @@
 // What is done to the lists of the form that was opened: `lists` at its place in the history's words (specs/Words.antt).
-ghost use Rattle.std.specs.Prelude.{◌≡◌, true, false, ◌+◌, ◌*◌, ◌≤◌, ◌<◌, ◌^◌, length};
+ghost use Rattle.std.specs.Prelude.{◌≡◌, Ok, IsOk, ◌+◌, ◌*◌, ◌≤◌, ◌<◌, ◌^◌, length};
 ghost use Rattle.model.specs.Events.{Event, State, record1, kill};
 ghost use Rattle.model.specs.Search.{walk, phase2};
 ghost use Rattle.pauli.specs.Rows.{of_row};
@@ -7,6 +7,7 @@ ghost use Rattle.lists.specs.Scans.{scan_of};
 ghost use Rattle.history.specs.Sizes.{form_of, Sized, ListsHeld, ListsTo, Newcomer, Leaving, Scanned};
 
 use lists::budget::{Budget, Scan};
+use pauli::corrupt::Corrupt;
 use pauli::rows::signature;
 
 #[derive(Clone, Copy)]
@@ -25,10 +26,10 @@ pub fn push_lists(
     id: usize,
     axis: &[u64],
     sig: u64,
-) -> bool
+) -> Result<(), Corrupt>
     requires { Sized (form_of form) n cap l h.old × (length axis.now ≡ 2 * l) }
     ensures long { length h.new ≡ length h.old }
-    ensures done { (m : State) (e : Event) → ListsHeld (form_of form) n cap l m h.old → length m.events ≡ id → id < cap → Newcomer n l axis.now sig e → (result ≡ true) × ListsTo (form_of form) n cap l (record1 e m) h.old h.new }
+    ensures done { (m : State) (e : Event) → ListsHeld (form_of form) n cap l m h.old → length m.events ≡ id → id < cap → Newcomer n l axis.now sig e → IsOk result × ListsTo (form_of form) n cap l (record1 e m) h.old h.new }
 {
     let counts = 2 + 6 * cap + cap * (2 * l) + (cap + 63) / 64;
     match form {
@@ -44,7 +45,7 @@ pub fn push_lists(
             let x = axis[0];
             let z = axis[1];
             if (x | z) >> n != 0 {
-                return false;
+                return Err(Corrupt);
             }
             support::families::push_sliced(h, counts, counts + 2 * n, cap, n, id as u64, x, z)
         }
@@ -61,10 +62,10 @@ pub fn kill_lists(
     id: usize,
     sig: u64,
     events: usize,
-) -> bool
+) -> Result<(), Corrupt>
     requires { Sized (form_of form) n cap l h.old × (events ≤ cap) }
     ensures long { length h.new ≡ length h.old }
-    ensures done { (m : State) → ListsHeld (form_of form) n cap l m h.old → length m.events ≡ events → Leaving n cap l m id sig h.old → (result ≡ true) × ListsTo (form_of form) n cap l (kill id m) h.old h.new }
+    ensures done { (m : State) → ListsHeld (form_of form) n cap l m h.old → length m.events ≡ events → Leaving n cap l m id sig h.old → IsOk result × ListsTo (form_of form) n cap l (kill id m) h.old h.new }
 {
     let alive = 2 + 6 * cap + cap * (2 * l);
     let counts = alive + (cap + 63) / 64;
@@ -80,7 +81,7 @@ pub fn kill_lists(
         ),
         Form::Sliced => {
             if sig >> n != 0 {
-                return false;
+                return Err(Corrupt);
             }
             support::families::kill_sliced(
                 h,
@@ -109,9 +110,9 @@ pub fn scan_lists(
     axis: &[u64],
     after: usize,
     budget: Budget,
-) -> Scan
+) -> Result<Scan, Corrupt>
     requires { Sized (form_of form) n cap l h.now × (length axis.now ≡ 2 * l) × (events ≤ cap) }
-    ensures { (m : State) → ListsHeld (form_of form) n cap l m h.now → Scanned cap l m events h.now → (of_row 0 axis.now).x < 2 ^ n → (of_row 0 axis.now).z < 2 ^ n → result ≡ scan_of (walk (phase2 m after (of_row 0 axis.now).x (of_row 0 axis.now).z) budget.0) }
+    ensures { (m : State) → ListsHeld (form_of form) n cap l m h.now → Scanned cap l m events h.now → (of_row 0 axis.now).x < 2 ^ n → (of_row 0 axis.now).z < 2 ^ n → result ≡ Ok (scan_of (walk (phase2 m after (of_row 0 axis.now).x (of_row 0 axis.now).z) budget.0)) }
 {
     let counts = 2 + 6 * cap + cap * (2 * l) + (cap + 63) / 64;
     match form {
@@ -136,7 +137,7 @@ pub fn scan_lists(
             let ax = axis[0];
             let az = axis[1];
             if (ax | az) >> n != 0 {
-                return Scan::Bad;
+                return Err(Corrupt);
             }
             support::families::scan_sliced(h, counts, counts + 2 * n, cap, n, after, ax, az, budget)
         }

@@ -36,7 +36,7 @@ fn kill_live(h: &mut [u64], form: Form, n: usize, l: usize, cap: usize, id: usiz
     }
     let sig = h[2 + 5 * cap + id];
     if drop_event(h, l, cap, id) {
-        return kill_lists(h, form, n, l, cap, id, sig, events);
+        return kill_lists(h, form, n, l, cap, id, sig, events).is_ok();
     }
     false
 }

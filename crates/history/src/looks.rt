@@ -85,11 +85,13 @@ pub fn look(
             if cap < events {
                 return Seen::Bad;
             }
-            match scan_lists(h, form, n, l, cap, events, axis, id, left) {
+            let Ok(scan) = scan_lists(h, form, n, l, cap, events, axis, id, left) else {
+                return Seen::Bad;
+            };
+            match scan {
                 Scan::Clear(rest) => partner(h, cap, id, sign, spent(allowance, rest)),
                 Scan::Blocked(rest) => Seen::Blocked(spent(allowance, rest)),
                 Scan::Out(rest) => Seen::Exhausted(spent(allowance, rest)),
-                Scan::Bad => Seen::Bad,
             }
         }
         Cand::Bad => Seen::Bad,

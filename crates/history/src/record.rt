@@ -81,9 +81,9 @@ pub fn record(
     }
     let sig = signature(axis, l);
     put_event(h, l, cap, id, axis, sig, body);
-    if !push_lists(h, form, n, l, cap, id, axis, sig) {
+    let Ok(()) = push_lists(h, form, n, l, cap, id, axis, sig) else {
         return Kept::Bad;
-    }
+    };
     h[0] = (id + 1) as u64;
     Kept::As(id)
 }

@@ -7,7 +7,7 @@ ghost use Rattle.pauli.specs.Rows.{of_row};
 ghost use Rattle.history.specs.Words.{alive_place, Holds};
 ghost use Rattle.history.specs.Phases.{candidate_of, label_of, Onward, Met, Turn, Falls};
 
-use lists::budget::{Budget, Spent};
+use lists::budget::Budget;
 use pauli::rows::same;
 
 // What phase 1 finds, with the steps left; or that a stored value is bad.
@@ -70,8 +70,8 @@ fn turn(
         return onward(h, cap, cur, left);
     }
     match left.spend(1) {
-        Spent::Short => Visit::Stop(Cand::Out(left)),
-        Spent::Left(rest) => {
+        None => Visit::Stop(Cand::Out(left)),
+        Some(rest) => {
             let words = 2 * l;
             let from = 2 + 6 * cap + id * words;
             if same(&h[from..from + words], axis) {

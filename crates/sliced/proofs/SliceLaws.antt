@@ -11,9 +11,9 @@ use lib.Seq.{get_or-set_same, get_or-set_other}
 use Rattle.model.specs.Pauli.{has}
 use Rattle.model.specs.Events.{words}
 use Rattle.pauli.proofs.Digits.{three}
-use Rattle.std.specs.Prelude.{Result, Ok, Err, IsErr}
+use Rattle.std.specs.Prelude.{Result, Ok, IsErr}
 use Rattle.pauli.specs.declared.corrupt.Corrupt.{Corrupt}
-use Rattle.std.specs.Prelude.{Option, Some, None, is_none}
+use Rattle.std.specs.Prelude.{Option, Some, None}
 use Rattle.lists.specs.Lists.{Counts, Among, Only, is_live, drops_at, left, still, Rises, Sought}
 use Rattle.lists.specs.Scalars.{pushed}
 use Rattle.lists.proofs.ScalarLaws.{same_Ok, err_not}

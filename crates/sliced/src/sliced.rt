@@ -245,7 +245,11 @@ fn visit(live: u64, word: u64, first: u64, left: Budget) -> Scan
     let Some(now) = left.spend(cost(live)) else {
         return Scan::Out(left);
     };
-    if word & live & first != 0 { Scan::Blocked(now) } else { Scan::Clear(now) }
+    if word & live & first != 0 {
+        Scan::Blocked(now)
+    } else {
+        Scan::Clear(now)
+    }
 }
 
 // Two blocks in a row, the later one whole.

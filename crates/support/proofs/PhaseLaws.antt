@@ -30,7 +30,7 @@ use Rattle.lists.specs.Scans.{scan_of, steps}
 use Rattle.lists.proofs.ScanLaws.{signature_digit as signature_bit}
 use Rattle.lists.specs.declared.budget.Budget.{Budget}
 use Rattle.lists.specs.declared.budget.Scan.{Scan}
-use Rattle.lists.specs.declared.budget.Scan.TheVariants.{Clear, Blocked, Out}
+use Rattle.lists.specs.declared.budget.Scan.TheVariants.{Clear}
 
 -- ---- one walk after another
 

@@ -19,7 +19,14 @@ use pauli::corrupt::Corrupt;
 // ---- scalar
 
 // Appends `id` to each list of sig.
-pub fn push_scalar(h: &mut [u64], at: usize, base: usize, cap: usize, sig: u64, id: u64) -> Result<(), Corrupt>
+pub fn push_scalar(
+    h: &mut [u64],
+    at: usize,
+    base: usize,
+    cap: usize,
+    sig: u64,
+    id: u64,
+) -> Result<(), Corrupt>
     requires { ScalarRooms h.old at base cap }
     ensures long { length h.new ≡ length h.old }
     ensures done { (ls : ℕ → List ℕ) (d : ℕ → ℕ) → Scalars h.old at base cap ls d → ((b : ℕ) → b < 64 → has sig b ≡ 1 → length (ls b) < cap) → IsOk result × ScalarsTo h.old at base cap sig (chosen sig (λ b. pushed id (ls b)) ls) d h.new }

@@ -1,10 +1,13 @@
 -- `history::looks::look` meets its contract, by how its two phases ended. Assumes nothing.
-use Rattle.model.specs.Search.{walk, phase1, phase2}
+use mathlib.Core.Path.{ap}
+use Rattle.std.specs.Prelude.{is_err}
+use Rattle.lists.proofs.ScanLaws.{answer_not}
+use Rattle.model.specs.Search.{walk, phase1}
 use Rattle.pauli.specs.Rows.{of_row}
 use Rattle.history.specs.Sizes.{form_of}
 use Rattle.history.specs.Phases.{label_of}
 use Rattle.history.proofs.ScanForm.{counts_inside}
-use Rattle.history.proofs.LookLaws.{sign_bits, Partner-bits, walk_bad, scan_bad, held_lists, held_scan, look_Free, look_out, look_blocked, look_dry, look_found}
+use Rattle.history.proofs.LookLaws.{sign_bits, Partner-bits, walk_bad, held_lists, held_scan, look_Free, look_out, look_blocked, look_dry, look_found}
 use native.Mathlib.Omega.{arith}
 use Rattle.history.proofs.looks.look.Goals as goal
 
@@ -51,6 +54,7 @@ returns-in-Clear c =
     c.in-Match.id c.in-Match.left c.in-Match.is
     c.scan_lists.result
     (c.scan_lists.ensures m (held_lists _ _ _ _ m a.h.now holds sane) (held_scan _ _ _ _ m a.h.now holds) x_small z_small)
+    c.in-Ok.scan c.in-Ok.is
     _ _ _ _ a.h.now holds sane c.in-Clear.rest c.spent-in-Clear.result c.partner.result c.in-Clear.is c.spent-in-Clear.ensures
     (Partner-bits a.h.now a.cap c.in-Match.id a.sign c.spent-in-Clear.result c.partner.result c.requires.2 c.partner.ensures)
 
@@ -64,10 +68,11 @@ returns-in-Blocked c =
     c.in-Match.id c.in-Match.left c.in-Match.is
     c.scan_lists.result
     (c.scan_lists.ensures m (held_lists _ _ _ _ m a.h.now holds sane) (held_scan _ _ _ _ m a.h.now holds) x_small z_small)
+    c.in-Ok.scan c.in-Ok.is
     c.in-Blocked.rest c.spent-in-Blocked.result c.in-Blocked.is c.spent-in-Blocked.ensures
 
-pub returns-in-Out-scan_lists : goal.returns-in-Out-scan_lists
-returns-in-Out-scan_lists c =
+pub returns-in-Out-scan : goal.returns-in-Out-scan
+returns-in-Out-scan c =
     let a = c.args in
     λ m holds sane given x_small z_small.
     look_dry m a.sign (label_of a.high a.low) (of_row 0 a.axis.now).x (of_row 0 a.axis.now).z a.allowance given
@@ -76,14 +81,14 @@ returns-in-Out-scan_lists c =
     c.in-Match.id c.in-Match.left c.in-Match.is
     c.scan_lists.result
     (c.scan_lists.ensures m (held_lists _ _ _ _ m a.h.now holds sane) (held_scan _ _ _ _ m a.h.now holds) x_small z_small)
-    c.in-Out-scan_lists.rest c.spent-in-Out-scan_lists.result c.in-Out-scan_lists.is c.spent-in-Out-scan_lists.ensures
+    c.in-Ok.scan c.in-Ok.is
+    c.in-Out-scan.rest c.spent-in-Out-scan.result c.in-Out-scan.is c.spent-in-Out-scan.ensures
 
-pub returns-in-Bad-scan_lists : goal.returns-in-Bad-scan_lists
-returns-in-Bad-scan_lists c =
+pub returns-in_default : goal.returns-in_default
+returns-in_default c =
     let a = c.args in
     λ m holds sane given x_small z_small.
-    absurd (scan_bad c.scan_lists.result (walk (phase2 m c.in-Match.id (of_row 0 a.axis.now).x (of_row 0 a.axis.now).z) c.in-Match.left.0) c.in-Bad-scan_lists.is
-    (c.scan_lists.ensures m (held_lists _ _ _ _ m a.h.now holds sane) (held_scan _ _ _ _ m a.h.now holds) x_small z_small))
+    answer_not c.scan_lists.result _ (ap is_err c.in_default.is) (c.scan_lists.ensures m (held_lists _ _ _ _ m a.h.now holds sane) (held_scan _ _ _ _ m a.h.now holds) x_small z_small)
 
 pub returns-in-Bad : goal.returns-in-Bad
 returns-in-Bad c =

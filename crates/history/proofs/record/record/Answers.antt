@@ -1,7 +1,7 @@
 -- `history::record::record` meets its contract: the words of the event, then those of its lists, then the count (RecordLaws). Assumes nothing.
-use mathlib.Core.Bool.{not}
+use Rattle.std.specs.Prelude.{is_err}
+use Rattle.support.proofs.FamilyLaws.{refuses}
 use mathlib.Core.Path.{ap}
-use Rattle.model.proofs.Members.{clash}
 use Rattle.history.specs.Sizes.{form_of}
 use Rattle.history.proofs.StayLaws.{counts_there}
 use Rattle.history.proofs.RecordLaws.{record_goes, record_ends}
@@ -18,13 +18,13 @@ put_event-requires c =
     let a = c.args in
     (counts_there (form_of a.form) a.n a.cap a.l a.h.now c.requires.0, c.requires.0.some, c.requires.0.few, omega arith, c.requires.1, c.requires.2)
 
-pub returns-then-not-push_lists-clause-done : goal.returns-then-not-push_lists-clause-done
-returns-then-not-push_lists-clause-done c =
+pub returns-in_default-clause-done : goal.returns-in_default-clause-done
+returns-in_default-clause-done c =
     let a = c.args in
     let sg = c.signature-sig in
     let put = c.put_event in
     let lists = c.push_lists in
-    λ m e held sane room new. clash (not lists.result) (ap not c.if-not-push_lists.true) (ap not (record_goes (form_of a.form) a.n a.cap a.l sg.result a.axis.now a.body a.h.now put.new.h lists.new.h lists.result sg.ensures put.ensures.0 lists.ensures.done m e held sane room new))
+    λ m e held sane room new. absurd (refuses lists.result (ap is_err c.in_default.is) (record_goes (form_of a.form) a.n a.cap a.l sg.result a.axis.now a.body a.h.now put.new.h lists.new.h lists.result sg.ensures put.ensures.0 lists.ensures.done m e held sane room new))
 
 pub bounds-h-0-2 : goal.bounds-h-0-2
 bounds-h-0-2 c =

@@ -12,10 +12,10 @@ use Rattle.history.proofs.Spending.{spend_Told}
 use Rattle.history.proofs.Turning.{met_there, met_compared, Turn-cleared, high-Onward, low-Onward, Turn-dry, turn_match, Turn-past}
 use native.Mathlib.Omega.{arith}
 use Rattle.history.proofs.search.turn.Goals as goal
-use Rattle.history.proofs.search.turn.Goals.{After-same, In-Left}
+use Rattle.history.proofs.search.turn.Goals.{After-same, In-Some}
 
 -- the event's axis stands within the words
-row_room : (c : In-Left) →
+row_room : (c : In-Some) →
     let a = c.args in
     axis_place a.cap + (a.cur - 1) * (2 * a.l) + 2 * a.l ≤ length a.h.now
 row_room c =
@@ -28,7 +28,7 @@ compared : (c : After-same) (f : Form) (n : ℕ) (m : State) →
     Met f n m a.cap a.l a.events a.cleared a.low (a.cur - 1) a.h.now → same_axis (of_row 0 a.axis.now).x (of_row 0 a.axis.now).z (event_at m.events (a.cur - 1)) ≡ c.same.result
 compared c f n m met =
     let a = c.args in
-    met_compared f n m a.cap a.l a.events a.cleared a.high a.low 0 0 a.cur a.h.now (omega arith) met a.axis.now c.requires.2 (row_room (goal.at.After-same c).In-Left) c.same.result c.same.ensures.sets
+    met_compared f n m a.cap a.l a.events a.cleared a.high a.low 0 0 a.cur a.h.now (omega arith) met a.axis.now c.requires.2 (row_room (goal.at.After-same c).In-Some) c.same.result c.same.ensures.sets
 
 pub returns-then-events-id-clause-turn : goal.returns-then-events-id-clause-turn
 returns-then-events-id-clause-turn c = let a = c.args in
@@ -53,17 +53,17 @@ returns-then-h-at-2-clause-turn c =
 pub returns-then-same-clause-turn : goal.returns-then-same-clause-turn
 returns-then-same-clause-turn c =
     let a = c.args in
-    let told = spend_Told a.left 1 _ (sym c.in-Left.is ∙ c.spend.ensures) in
+    let told = spend_Told a.left 1 _ (sym c.in-Some.is ∙ c.spend.ensures) in
     λ f n m met. turn_match f n m a.cap a.l a.events a.cleared a.high a.low _ _ a.cur _ (omega arith) met a.left (omega arith) c.if-h-at.false c.if-h-at-2.false _ told.1 told.0 (compared (goal.at.returns-then-same-clause-turn c).After-same f n m met ∙ c.if-same.true)
 
-pub returns-in-Short-clause-turn : goal.returns-in-Short-clause-turn
-returns-in-Short-clause-turn c =
+pub returns-in-None-clause-turn : goal.returns-in-None-clause-turn
+returns-in-None-clause-turn c =
     let a = c.args in
-    λ f n m met. Turn-dry f n m a.cap a.l a.events a.cleared a.high a.low _ _ a.cur _ (omega arith) met a.left (omega arith) c.if-h-at.false c.if-h-at-2.false (spend_Told a.left 1 _ (sym c.in-Short.is ∙ c.spend.ensures))
+    λ f n m met. Turn-dry f n m a.cap a.l a.events a.cleared a.high a.low _ _ a.cur _ (omega arith) met a.left (omega arith) c.if-h-at.false c.if-h-at-2.false (spend_Told a.left 1 _ (sym c.in-None.is ∙ c.spend.ensures))
 
 pub returns-else-same-clause-turn : goal.returns-else-same-clause-turn
 returns-else-same-clause-turn c =
     let a = c.args in
-    let on = c.onward-in-Left.ensures in
-    let told = spend_Told a.left 1 _ (sym c.in-Left.is ∙ c.spend.ensures) in
+    let on = c.onward-in-Some.ensures in
+    let told = spend_Told a.left 1 _ (sym c.in-Some.is ∙ c.spend.ensures) in
     λ f n m met. Turn-past f n m a.cap a.l a.events a.cleared a.high a.low _ _ a.cur _ (omega arith) met a.left (omega arith) c.if-h-at.false c.if-h-at-2.false _ told.1 told.0 _ (compared (goal.at.returns-else-same-clause-turn c).After-same f n m met ∙ c.if-same.false) on

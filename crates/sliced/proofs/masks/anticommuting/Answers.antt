@@ -1,5 +1,4 @@
 -- `sliced::masks::anticommuting` meets its contract: its two halves are gathered, and `marks` says what their digits are. Assumes nothing.
-use native.Mathlib.Omega.{arith}
 use Rattle.sliced.proofs.MaskLaws.{Mixed-none, Mixed-more, mixed_marks}
 use Rattle.sliced.proofs.masks.anticommuting.Goals as goal
 

@@ -1,6 +1,6 @@
 -- `sliced::masks::gather` meets its contract: the word of each block xor what is gathered over the digits left to do is the whole. Assumes nothing.
 use mathlib.Core.Path.{sym, ap, ◌∙◌}
-use Prim.Native.Nat.{◌+◌, ◌*◌, ◌<◌}
+use Prim.Native.Nat.{◌*◌, ◌<◌}
 use native.Mathlib.Omega.{arith}
 use lib.ListN.{get_or}
 use Rattle.pauli.specs.declared.bits.SetBits.{SetBits}

@@ -1,9 +1,6 @@
 -- `sliced::masks::gather` meets its contract: the word of each block xor what is gathered over the digits left to do is the whole. Assumes nothing.
-use mathlib.Core.Path.{◌≡◌}
-use Prim.Native.Nat.{ℕ, ◌+◌, ◌*◌, ◌≤◌, ◌<◌}
-use lib.Bits.{bit_xor}
-use lib.ListN.{length, get_or}
-use Rattle.sliced.specs.Gathered.{gathered}
+use Prim.Native.Nat.{◌+◌, ◌*◌}
+use lib.ListN.{get_or}
 use Rattle.sliced.proofs.MaskLaws.{Gathering, Mixed}
 use Rattle.sliced.proofs.masks.gather.Given as goal
 
