@@ -9,8 +9,8 @@ use lib.ListN.{length, length-append}
 use lib.Dec.{eqb, ltb}
 use Rattle.text.specs.Line.{reading_of}
 use Rattle.text.specs.Spoken.{bad, spoken}
-use Rattle.text.specs.declared.lines.Parsed.{Parsed}
-use Rattle.text.specs.declared.lines.Parsed.TheVariants as parsed
+use Rattle.std.specs.Prelude.{Option, None}
+use Rattle.text.specs.declared.lines.Line.{Line}
 use Rattle.session.specs.Session.{Stage, qubits, Next, on, stop, Place, start, fresh, answered, heard, and_then, ran, last_saying, whole, output}
 use Rattle.session.specs.ByLines.{Cut, in_front, cut, at_end, going_on, said_to, output_by_lines}
 use Rattle.session.proofs.Theorems.{whole-saying}
@@ -42,7 +42,7 @@ at_end_lem line (b ∷ h) s = rw (ne_eqb (length (b ∷ h)) 0 (λ (z : length (b
 
 -- ---- the byte after 80
 
-reading_long : (l : List ℕ) → 80 < length l → reading_of l ≡ parsed.Bad
+reading_long : (l : List ℕ) → 80 < length l → reading_of l ≡ None
 unfolding reading_of
 reading_long l h = rw (lt-ltb 80 (length l) h) refl
 
@@ -57,7 +57,7 @@ too_long h b line s [] left long = ap spoken (sym (unended h b line s left))
 too_long h b line s (l ∷ ls) left long =
     let n : length (h ++ (b ∷ l)) ≡ length h + length (b ∷ l) = length-append h (b ∷ l) in
     let past : 80 < length (h ++ (b ∷ l)) = omega arith in
-    ap (λ (p : Parsed). going_on (answered (line + 1) p s) (λ t. said_to (line + 1) t ls left)) (sym (reading_long (h ++ (b ∷ l)) past))
+    ap (λ (p : Option Line). going_on (answered (line + 1) p s) (λ t. said_to (line + 1) t ls left)) (sym (reading_long (h ++ (b ∷ l)) past))
 
 -- ---- any byte
 

@@ -17,7 +17,7 @@ use Rattle.partner.specs.Calls.{call_in}
 use Rattle.text.specs.Shape.{bytes, glyph, digits, decimal, hexes, letter, item_of, print}
 use Rattle.text.specs.Taken.{nibble, more, number_at, word_at, kind_at, byte_at}
 use Rattle.text.specs.Fit.{fitted}
-use Rattle.text.specs.Line.{read_from, reading_of}
+use Rattle.text.specs.Line.{kind_numbered, read_rows, reading_of}
 use Rattle.text.specs.Spoken.{spoken}
 use Rattle.session.specs.Session.{tried, start, heard, ran, last_saying, output}
 
@@ -43,7 +43,7 @@ example_out =
     ∷ "line=17 look=found id=0 sign=-1 steps=1" ∷ "line=18 answer=0" ∷ "line=19 look=none steps=0" ∷ "end=19 events=2 live=1" ∷ [])
 
 pub example : output example_in ≡ example_out
-unfolding output ran heard tried start last_saying reading_of read_from fitted item_of nibble more number_at word_at kind_at byte_at spoken print decimal digits glyph hexes letter call_in gate_of kind_of form_of count_in count times shift plain quarter sign_of sign apart anti x_at z_at set_x set_z gate_h gate_s gate_z gate_x gate_cnot gate_cz gate_swap gate turn_z turn axis paulis from pauli_x pauli_z fresh label_xor no_label same_label labels label_rows keep some words touches no_event event_at live_at is_rotation push record1 record_all blocker_on killed dead factor tidy kill clear walk down recent has_label candidate same_axis phase1 against list_at join shared_below entry scalar_list blocks first_block block sliced_list list_work phase2 sign_at spent looked2 looked1 look_for look header_room frame_room sketch_room list_count count_room chain_room event_room live_room axis_room list_room need is_too_wide open_number open_answer opened opening answer twice answer_to gate_qubits not_readable not_killable reply_of reply reframed rotation_of seven effect call tally
+unfolding output ran heard tried start last_saying reading_of read_rows kind_numbered fitted item_of nibble more number_at word_at kind_at byte_at spoken print decimal digits glyph hexes letter call_in gate_of kind_of form_of count_in count times shift plain quarter sign_of sign apart anti x_at z_at set_x set_z gate_h gate_s gate_z gate_x gate_cnot gate_cz gate_swap gate turn_z turn axis paulis from pauli_x pauli_z fresh label_xor no_label same_label labels label_rows keep some words touches no_event event_at live_at is_rotation push record1 record_all blocker_on killed dead factor tidy kill clear walk down recent has_label candidate same_axis phase1 against list_at join shared_below entry scalar_list blocks first_block block sliced_list list_work phase2 sign_at spent looked2 looked1 look_for look header_room frame_room sketch_room list_count count_room chain_room event_room live_room axis_room list_room need is_too_wide open_number open_answer opened opening answer twice answer_to gate_qubits not_readable not_killable reply_of reply reframed rotation_of seven effect call tally
 example = refl
 
 -- one qubit, with its label
@@ -84,7 +84,7 @@ pub record Small : Type 0 where
   pub wide_tag : output (lines (header "events=1" "steps=9") ++ lines ("record=y a=0 tag=4294967296" ∷ [])) ≡ lines ("line=6 answer=bad" ∷ [])
 
 pub small : Small
-unfolding output ran heard tried start last_saying reading_of read_from fitted item_of nibble more number_at word_at kind_at byte_at spoken print decimal digits glyph hexes letter call_in gate_of kind_of form_of count_in count times shift plain quarter sign_of sign apart anti x_at z_at set_x set_z gate_h gate_s gate_z gate_x gate_cnot gate_cz gate_swap gate turn_z turn axis paulis from pauli_x pauli_z fresh label_xor no_label same_label labels label_rows keep some words touches no_event event_at live_at is_rotation push record1 record_all blocker_on killed dead factor tidy kill clear walk down recent has_label candidate same_axis phase1 against list_at join shared_below entry scalar_list blocks first_block block sliced_list list_work phase2 sign_at spent looked2 looked1 look_for look header_room frame_room sketch_room list_count count_room chain_room event_room live_room axis_room list_room need is_too_wide open_number open_answer opened opening answer twice answer_to gate_qubits not_readable not_killable reply_of reply reframed rotation_of seven effect call tally
+unfolding output ran heard tried start last_saying reading_of read_rows kind_numbered fitted item_of nibble more number_at word_at kind_at byte_at spoken print decimal digits glyph hexes letter call_in gate_of kind_of form_of count_in count times shift plain quarter sign_of sign apart anti x_at z_at set_x set_z gate_h gate_s gate_z gate_x gate_cnot gate_cz gate_swap gate turn_z turn axis paulis from pauli_x pauli_z fresh label_xor no_label same_label labels label_rows keep some words touches no_event event_at live_at is_rotation push record1 record_all blocker_on killed dead factor tidy kill clear walk down recent has_label candidate same_axis phase1 against list_at join shared_below entry scalar_list blocks first_block block sliced_list list_work phase2 sign_at spent looked2 looked1 look_for look header_room frame_room sketch_room list_count count_room chain_room event_room live_room axis_room list_room need is_too_wide open_number open_answer opened opening answer twice answer_to gate_qubits not_readable not_killable reply_of reply reframed rotation_of seven effect call tally
 small = record {
   empty = refl;
   early = refl;

@@ -38,8 +38,7 @@ use Rattle.text.specs.Spoken.{Saying, replied, bad, not_opened, spoken}
 use Rattle.text.specs.Wrote.{Wrote}
 use Rattle.text.specs.declared.lines.Line.{Line}
 use Rattle.text.specs.declared.lines.Line.TheVariants as line
-use Rattle.text.specs.declared.lines.Parsed.{Parsed}
-use Rattle.text.specs.declared.lines.Parsed.TheVariants as parsed
+use Rattle.std.specs.Prelude.{Option, Some, None}
 use Rattle.text.proofs.Room.{spoken_room, spoken-Whole}
 use Rattle.session.specs.Session.{running, on, stop, room, tried, settled, wrong, led, begun, answered_by, operated, obeyed, answered}
 use Rattle.session.specs.Desk.{stage_of, Running, Means, Near, Within, Takes, Said, Tells, records_of, kills_of, counted, Counts, Does}
@@ -369,12 +368,12 @@ module _ (ln : ℕ) (st : code.Stage) (l : Line) (ls store out : List ℕ) (r : 
   pub obeys_begun : At (0 ∷ 1 ∷ 2 ∷ 3 ∷ 4 ∷ []) st → Tells (begun ln l) st ls store out r ls' store' out' → Tells (obeyed ln l) st ls store out r ls' store' out'
   obeys_begun h t = record { ends = t.ends; is = λ m means. let d = t.is m means in (d.0, d.1, begun_is st h m ∙ d.2) }
 
-  pub answers_line : (p q : Parsed) → q ≡ p → q ≡ parsed.Line l → Tells (obeyed ln l) st ls store out r ls' store' out'
+  pub answers_line : (p q : Option Line) → q ≡ p → q ≡ Some l → Tells (obeyed ln l) st ls store out r ls' store' out'
       → Tells (answered ln p) st ls store out r ls' store' out'
-  answers_line p q u e t = subst (λ (x : Parsed). Tells (answered ln x) st ls store out r ls' store' out') (sym e ∙ u) t
+  answers_line p q u e t = subst (λ (x : Option Line). Tells (answered ln x) st ls store out r ls' store' out') (sym e ∙ u) t
 
-pub answers_bad : (ln : ℕ) (st : code.Stage) (ls store out : List ℕ) (n : ℕ) (out' : List ℕ) (p q : Parsed) → q ≡ p → q ≡ parsed.Bad → 128 ≤ length out
+pub answers_bad : (ln : ℕ) (st : code.Stage) (ls store out : List ℕ) (n : ℕ) (out' : List ℕ) (p q : Option Line) → q ≡ p → q ≡ None → 128 ≤ length out
     → Wrote out 0 (spoken (bad ln)) out' n → Tells (answered ln p) st ls store out (telling.Stop n) ls store out'
 answers_bad ln st ls store out n out' p q u e wide w =
-    subst (λ (x : Parsed). Tells (answered ln x) st ls store out (telling.Stop n) ls store out') (sym e ∙ u)
+    subst (λ (x : Option Line). Tells (answered ln x) st ls store out (telling.Stop n) ls store out') (sym e ∙ u)
     (record { ends = said_of (bad ln) out out' n w wide; is = λ m means. (m, tt, ap stop (sym (said_is (bad ln) out out' n w wide))) })

@@ -1,6 +1,6 @@
 -- WHAT THE LINE PROGRAM SAYS on an input, bytes in and bytes out (`output`): 01, "The line program", and docs/DECISIONS.md, 10, where 01 leaves it open. Lines are
 -- read by `text`'s `reading_of`, the inverse of their printer (`reading_Reads`), answered by `model`'s calls and written by `text`'s `spoken`. It computes. Assumes nothing.
-use Rattle.std.specs.Prelude.{ℕ, ◌+◌, cond, List, [], ◌∷◌, ◌++◌, length, eqb, ltb, leb}
+use Rattle.std.specs.Prelude.{ℕ, ◌+◌, cond, List, [], ◌∷◌, ◌++◌, length, eqb, ltb, leb, Option, Some, None}
 use Rattle.model.specs.Events.{Form, Opening, State}
 use Rattle.model.specs.Calls.{Call, call_look, open_answer, opened, opening, reply, call, tally}
 use Rattle.frame.specs.Axes.{kind_of}
@@ -9,8 +9,6 @@ use Rattle.partner.specs.Calls.{call_in}
 use Rattle.text.specs.Line.{reading_of}
 use Rattle.text.specs.Spoken.{Saying, replied, bad, not_opened, end, spoken}
 use Rattle.text.specs.declared.lines.Line.{Line}
-use Rattle.text.specs.declared.lines.Parsed.{Parsed}
-use Rattle.text.specs.declared.lines.Parsed.TheVariants as parsed
 use Rattle.session.specs.Kinds.{as_qubits, as_form, as_events, as_steps, as_label, as_operation}
 
 -- The words of the program's store: the need of 32 qubits and 48 events in the sliced form (`room_is_need`), enough for every job that it takes
@@ -90,9 +88,9 @@ obeyed line l (steps n f E) = begun line l (steps n f E)
 obeyed line l (labelling n f E A q ws) = begun line l (labelling n f E A q ws)
 obeyed line l (running m) = operated line l m
 
-abbrev pub answered : (line : ℕ) → Parsed → Stage → Next Stage
-answered line (parsed.Line l) s = obeyed line l s
-answered line parsed.Bad s = wrong line
+abbrev pub answered : (line : ℕ) → Option Line → Stage → Next Stage
+answered line (Some l) s = obeyed line l s
+answered line None s = wrong line
 
 -- ---- one byte
 

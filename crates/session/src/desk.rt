@@ -16,7 +16,7 @@ use history::forms::Form;
 use partner::calls::{Call, apply, look, open};
 use store::answers::Answer;
 use text::answers::{write_answer, write_bad, write_not_opened, write_sight};
-use text::lines::{Line, Parsed, read_line};
+use text::lines::{Line, read_line};
 
 // To go on from a stage, or to stop; with how many bytes are said.
 #[derive(Clone, Copy)]
@@ -242,7 +242,7 @@ pub fn answer(
     ensures { Tells (answered line (reading_of s.now)) stage labels.old store.old out.old result labels.new store.new out.new }
 {
     match read_line(s) {
-        Parsed::Line(l) => obey(line, stage, l, labels, store, out),
-        Parsed::Bad => Told::Stop(write_bad(line, out)),
+        Some(l) => obey(line, stage, l, labels, store, out),
+        None => Told::Stop(write_bad(line, out)),
     }
 }

@@ -13,8 +13,7 @@ use Rattle.text.specs.Shape.{Item, number, word, kind, byte, item_of, shown, lef
 use Rattle.text.specs.Taken.{Taken, got, past, none, nibble, more, number_at, word_at, kind_at, byte_at, taken}
 use Rattle.text.specs.Fit.{fitted, onward, pushed, pushes}
 use Rattle.text.specs.declared.shapes.Five.{Five}
-use Rattle.text.specs.declared.shapes.Fit.{Fit}
-use Rattle.text.specs.declared.shapes.Fit.TheVariants.{Hit, Miss}
+use Rattle.std.specs.Prelude.{Option, Some, None}
 use Rattle.text.proofs.Digits.{nothing, Stops, number_sound, number_complete, word_sound, word_complete}
 
 -- ---- nothing but a byte is passed over, and a byte has no value
@@ -25,7 +24,7 @@ unlike e = let z : ◌≡◌ {A = ℕ} 0 1 = cc in omega arith
 pub lacking : {r : List ℕ} → none ≡ past r → ⊥
 lacking e = let z : ◌≡◌ {A = ℕ} 0 1 = cc in omega arith
 
-pub missed : {f : Five} → Miss ≡ Hit f → ⊥
+pub missed : {f : Five} → None ≡ Some f → ⊥
 missed e = let z : ◌≡◌ {A = ℕ} 0 1 = cc in omega arith
 
 more_valued : (l : ℕ) (t : List ℕ) (acc : ℕ) (r : List ℕ) → more l t acc ≡ past r → ⊥
@@ -162,14 +161,14 @@ stopped [] vs h = tt
 stopped (c ∷ p) vs h = stopped_at (item_of c) vs (print p (left (item_of c) vs)) h
 
 -- what is left of a shape, after what an item took
-abbrev on_from : (p : List ℕ) → Five → Taken → Fit
+abbrev on_from : (p : List ℕ) → Five → Taken → Option Five
 on_from p f = onward (λ v u. fitted p (pushed f v) u) (λ u. fitted p f u)
 
 -- one item, with what holds of the rest of the shape
 module _ (p : List ℕ) where
-  item_complete : ((f : Five) (vs : List ℕ) → Good p vs → fitted p f (print p vs) ≡ Hit (pushes f vs))
+  item_complete : ((f : Five) (vs : List ℕ) → Good p vs → fitted p f (print p vs) ≡ Some (pushes f vs))
       → (x : Item) → Limits x → after x p ≡ true → (f : Five) (vs : List ℕ) → Below vs (limited x (limits p))
-      → on_from p f (taken x (shown x vs ++ print p (left x vs))) ≡ Hit (pushes f vs)
+      → on_from p f (taken x (shown x vs ++ print p (left x vs))) ≡ Some (pushes f vs)
   item_complete ih (number l) m a f [] g = absurd g
   item_complete ih (number l) m a f (v ∷ vs) g = rw (number_complete l v (print p vs) m.1 g.0 (stopped p vs a)) (ih (pushed f v) vs g.1)
   item_complete ih word m a f [] g = absurd g
@@ -182,9 +181,9 @@ module _ (p : List ℕ) where
   Read x f t g = (vs : List ℕ) × Below vs (limited x (limits p)) × (t ≡ shown x vs ++ print p (left x vs)) × (g ≡ pushes f vs)
 
   module _
-      (ih : (f : Five) (t : List ℕ) (g : Five) → fitted p f t ≡ Hit g → (vs : List ℕ) × Good p vs × (t ≡ print p vs) × (g ≡ pushes f vs))
+      (ih : (f : Five) (t : List ℕ) (g : Five) → fitted p f t ≡ Some g → (vs : List ℕ) × Good p vs × (t ≡ print p vs) × (g ≡ pushes f vs))
       (f : Five) (t : List ℕ) (g : Five) where
-    by_number : (l : ℕ) → Limits (number l) → (y : Taken) → number_at l t ≡ y → on_from p f y ≡ Hit g → Read (number l) f t g
+    by_number : (l : ℕ) → Limits (number l) → (y : Taken) → number_at l t ≡ y → on_from p f y ≡ Some g → Read (number l) f t g
     unfolding Read
     by_number l m (got v r) e h =
         let q = number_sound l t v r m.0 m.1 e in
@@ -193,7 +192,7 @@ module _ (p : List ℕ) where
     by_number l m (past r) e h = absurd (number_valued l t r e)
     by_number l m none e h = absurd (missed h)
 
-    by_word : (y : Taken) → word_at 16 0 t ≡ y → on_from p f y ≡ Hit g → Read word f t g
+    by_word : (y : Taken) → word_at 16 0 t ≡ y → on_from p f y ≡ Some g → Read word f t g
     unfolding Read
     by_word (got v r) e h =
         let q = word_sound t v r e in
@@ -202,7 +201,7 @@ module _ (p : List ℕ) where
     by_word (past r) e h = absurd (word_valued 16 0 t r e)
     by_word none e h = absurd (missed h)
 
-    by_kind : (y : Taken) → kind_at t ≡ y → on_from p f y ≡ Hit g → Read kind f t g
+    by_kind : (y : Taken) → kind_at t ≡ y → on_from p f y ≡ Some g → Read kind f t g
     unfolding Read
     by_kind (got v r) e h =
         let q = kind_sound t v r e in
@@ -211,7 +210,7 @@ module _ (p : List ℕ) where
     by_kind (past r) e h = absurd (kind_valued t r e)
     by_kind none e h = absurd (missed h)
 
-    by_byte : (b : ℕ) (y : Taken) → byte_at b t ≡ y → on_from p f y ≡ Hit g → Read (byte b) f t g
+    by_byte : (b : ℕ) (y : Taken) → byte_at b t ≡ y → on_from p f y ≡ Some g → Read (byte b) f t g
     unfolding Read
     by_byte b (got v r) e h = absurd (byte_bare b t v r e)
     by_byte b (past r) e h =
@@ -219,7 +218,7 @@ module _ (p : List ℕ) where
         (i.0, i.1, byte_sound b t r e ∙ ap (λ (u : List ℕ). b ∷ u) i.2, i.3)
     by_byte b none e h = absurd (missed h)
 
-    item_sound : (x : Item) → Limits x → on_from p f (taken x t) ≡ Hit g → Read x f t g
+    item_sound : (x : Item) → Limits x → on_from p f (taken x t) ≡ Some g → Read x f t g
     item_sound (number l) m h = by_number l m (number_at l t) refl h
     item_sound word m h = by_word (word_at 16 0 t) refl h
     item_sound kind m h = by_kind (kind_at t) refl h
@@ -230,15 +229,15 @@ none_left [] h = refl
 none_left (v ∷ vs) h = absurd h
 
 -- what is printed with good values is read as those values
-pub complete : (p : List ℕ) → sane p ≡ true → (f : Five) (vs : List ℕ) → Good p vs → fitted p f (print p vs) ≡ Hit (pushes f vs)
+pub complete : (p : List ℕ) → sane p ≡ true → (f : Five) (vs : List ℕ) → Good p vs → fitted p f (print p vs) ≡ Some (pushes f vs)
 unfolding fitted print limits sane
-complete [] s f vs g = ap (λ (us : List ℕ). Hit (pushes f us)) (sym (none_left vs g))
+complete [] s f vs g = ap (λ (us : List ℕ). Some (pushes f us)) (sym (none_left vs g))
 complete (c ∷ p) s f vs g =
     let b = and_both (after (item_of c) p) (sane p) s in
     item_complete p (complete p b.1) (item_of c) (item_Limits c) b.0 f vs g
 
 -- and what is read was printed
-pub sound : (p : List ℕ) (f : Five) (t : List ℕ) (g : Five) → fitted p f t ≡ Hit g → (vs : List ℕ) × Good p vs × (t ≡ print p vs) × (g ≡ pushes f vs)
+pub sound : (p : List ℕ) (f : Five) (t : List ℕ) (g : Five) → fitted p f t ≡ Some g → (vs : List ℕ) × Good p vs × (t ≡ print p vs) × (g ≡ pushes f vs)
 unfolding fitted print limits Read
 sound [] f [] g h = ([], tt, refl, (cc))
 sound [] f (b ∷ t) g h = absurd (missed h)
@@ -259,13 +258,13 @@ apart [] q = false
 apart (c ∷ p) [] = false
 apart (c ∷ p) (d ∷ q) = parted (item_of c) (item_of d) (apart p q)
 
-at_byte : (a b : ℕ) (t : List ℕ) (F : ℕ → List ℕ → Fit) (G : List ℕ → Fit) (r : Bool) → cond (eqb b a) r true ≡ true → (r ≡ true → G t ≡ Miss)
-    → onward F G (byte_at a (b ∷ t)) ≡ Miss
+at_byte : (a b : ℕ) (t : List ℕ) (F : ℕ → List ℕ → Option Five) (G : List ℕ → Option Five) (r : Bool) → cond (eqb b a) r true ≡ true → (r ≡ true → G t ≡ None)
+    → onward F G (byte_at a (b ∷ t)) ≡ None
 unfolding byte_at
 at_byte a b t F G r h k = decided (eqb b a) (λ e. rw e (k (rw e at h))) (λ e. rw e)
 
-parts : (x y : Item) (F : ℕ → List ℕ → Fit) (G : List ℕ → Fit) (q vs : List ℕ) (r : Bool) → parted x y r ≡ true
-    → (r ≡ true → (us : List ℕ) → G (print q us) ≡ Miss) → onward F G (taken x (shown y vs ++ print q (left y vs))) ≡ Miss
+parts : (x y : Item) (F : ℕ → List ℕ → Option Five) (G : List ℕ → Option Five) (q vs : List ℕ) (r : Bool) → parted x y r ≡ true
+    → (r ≡ true → (us : List ℕ) → G (print q us) ≡ None) → onward F G (taken x (shown y vs ++ print q (left y vs))) ≡ None
 parts (byte a) (byte b) F G q vs r h k = at_byte a b (print q vs) F G r h (λ t. k t vs)
 parts (byte a) (number l) F G q vs r h k = absurd (false≢true h)
 parts (byte a) word F G q vs r h k = absurd (false≢true h)
@@ -274,7 +273,7 @@ parts (number l) y F G q vs r h k = absurd (false≢true h)
 parts word y F G q vs r h k = absurd (false≢true h)
 parts kind y F G q vs r h k = absurd (false≢true h)
 
-pub other : (p q : List ℕ) → apart p q ≡ true → (f : Five) (vs : List ℕ) → fitted p f (print q vs) ≡ Miss
+pub other : (p q : List ℕ) → apart p q ≡ true → (f : Five) (vs : List ℕ) → fitted p f (print q vs) ≡ None
 unfolding fitted print apart
 other [] q h f vs = absurd (false≢true h)
 other (c ∷ p) [] h f vs = absurd (false≢true h)

@@ -16,13 +16,11 @@ use Rattle.partner.specs.declared.calls.Call.TheVariants as call
 use Rattle.text.specs.Shape.{item_of, bytes, print, limits, Below, Good}
 use Rattle.text.specs.Taken.{nibble}
 use Rattle.text.specs.Fit.{fitted, zeros, pushes}
-use Rattle.text.specs.Line.{number_of, shape_of, values, text, Legal, Reads, shape_at, kind_numbered, line_of, TagFits}
+use Rattle.text.specs.Line.{number_of, shape_of, values, text, Legal, Reads, shape_at, kind_numbered, line_of}
 use Rattle.text.specs.declared.shapes.Five.{Five}
-use Rattle.text.specs.declared.shapes.Fit.TheVariants.{Hit, Miss}
+use Rattle.std.specs.Prelude.{Option, Some, None}
 use Rattle.text.specs.declared.lines.Line.{Line}
 use Rattle.text.specs.declared.lines.Line.TheVariants as line
-use Rattle.text.specs.declared.lines.Parsed.{Parsed}
-use Rattle.text.specs.declared.lines.Parsed.TheVariants as parsed
 use Rattle.text.proofs.Tests.{decided, each, every, checked}
 use Rattle.text.proofs.Back.{sane, apart, complete, sound, other, missed, none_left}
 
@@ -64,6 +62,7 @@ five_places l m n o p (a ∷ b ∷ vs) g = let q = three_places n o p vs g.1.1 i
 -- ---- the kinds and their numbers
 
 kind_number : (k : ℕ) → k < 4 → number_of (kind_numbered k) ≡ k
+unfolding kind_numbered
 kind_number k h =
     decided (eqb k 0) (λ x. simp x (sym (eqb-true _ _ x)))
     (λ x. decided (eqb k 1) (λ y. simp (x, y) (sym (eqb-true _ _ y)))
@@ -75,6 +74,7 @@ kind_number k h =
     simp (x, y, z) e)))
 
 kept_kind : (t : Kind) → kind_numbered (number_of t) ≡ t
+unfolding kind_numbered
 kept_kind kind.X = refl
 kept_kind kind.Y = refl
 kept_kind kind.Z = refl
@@ -112,7 +112,7 @@ index (line.Look t a) = 25
 
 -- there its shape stands, which makes it of its values
 pub There : Line → Type 0
-There l = (line_of (index l) (pushes zeros (values l)) ≡ parsed.Line l) × (index l < 26) × (shape_at (index l) ≡ bytes (shape_of l))
+There l = (line_of (index l) (pushes zeros (values l)) ≡ Some l) × (index l < 26) × (shape_at (index l) ≡ bytes (shape_of l))
 
 there : (l : Line) → There l
 unfolding There
@@ -133,15 +133,15 @@ there (line.Call (call.Gate (gate.Cnot a b))) = (refl, lit< tt, refl)
 there (line.Call (call.Gate (gate.Cz a b))) = (refl, lit< tt, refl)
 there (line.Call (call.Gate (gate.Cy a b))) = (refl, lit< tt, refl)
 there (line.Call (call.Gate (gate.Swap a b))) = (refl, lit< tt, refl)
-there (line.Call (call.Turn t k a)) = (ap (λ (x : Kind). parsed.Line (line.Call (call.Turn x k a))) (kept_kind t), lit< tt, refl)
-there (line.Call (call.Record t a g)) = (ap (λ (x : Kind). parsed.Line (line.Call (call.Record x a g))) (kept_kind t), lit< tt, refl)
+there (line.Call (call.Turn t k a)) = (ap (λ (x : Kind). Some (line.Call (call.Turn x k a))) (kept_kind t), lit< tt, refl)
+there (line.Call (call.Record t a g)) = (ap (λ (x : Kind). Some (line.Call (call.Record x a g))) (kept_kind t), lit< tt, refl)
 there (line.Call (call.Measure a)) = (refl, lit< tt, refl)
 there (line.Call (call.Reset a)) = (refl, lit< tt, refl)
 there (line.Call (call.Ccx a b c)) = (refl, lit< tt, refl)
 there (line.Call (call.Ccz a b c)) = (refl, lit< tt, refl)
 there (line.Call (call.Kill a)) = (refl, lit< tt, refl)
 there (line.Call call.Clear) = (refl, lit< tt, refl)
-there (line.Look t a) = (ap (λ (x : Kind). parsed.Line (line.Look x a)) (kept_kind t), lit< tt, refl)
+there (line.Look t a) = (ap (λ (x : Kind). Some (line.Look x a)) (kept_kind t), lit< tt, refl)
 
 -- ---- and every shape, with good values, has its line
 
@@ -204,12 +204,12 @@ back =
     each 26 Back
     ((((((((((((((((((((((((((tt, b0), b1), b2), b3), b4), b5), b6), b7), b8), b9), b10), b11), b12), b13), b14), b15), b16), b17), b18), b19), b20), b21), b22), b23), b24), b25)
 
--- a tag is one of 32 bits
-pub tagged : (s : List ℕ) (k : ℕ) (f : Five) → fitted (shape_at k) zeros s ≡ Hit f → TagFits k f
+-- a tag is one of 32 bits: the record line is the shape 18
+pub tagged : (s : List ℕ) (f : Five) → fitted (shape_at 18) zeros s ≡ Some f → f.e < 2 ^ 32
 unfolding limits item_of
-tagged s k f h e =
-    let q = sound (shape_at k) zeros s f h in
-    let g : Good (shape_at 18) q.0 = subst (λ (i : ℕ). Good (shape_at i) q.0) e q.1 in
+tagged s f h =
+    let q = sound (shape_at 18) zeros s f h in
+    let g : Good (shape_at 18) q.0 = q.1 in
     let t = three_places _ _ _ q.0 g in
     let p : f ≡ pushes zeros (t.0 ∷ t.1 ∷ t.2 ∷ []) = q.3 ∙ ap (pushes zeros) (sym t.3) in
     subst (λ (x : ℕ). x < 2 ^ 32) (sym (ap (λ (x : Five). x.e) p)) t.6
@@ -218,11 +218,11 @@ tagged s k f h e =
 
 -- none of the first k shapes hits
 abbrev pub NoneBefore : List ℕ → ℕ → Type 0
-NoneBefore s k = (j : ℕ) → j < k → fitted (shape_at j) zeros s ≡ Miss
+NoneBefore s k = (j : ℕ) → j < k → fitted (shape_at j) zeros s ≡ None
 
 module _ (s : List ℕ) where
   -- under a shape that hits
-  module _ (k : ℕ) (f : Five) (h : k < 26) (hit : fitted (shape_at k) zeros s ≡ Hit f) (r : Parsed) (m : r ≡ line_of k f) (short : length s ≤ 80) where
+  module _ (k : ℕ) (f : Five) (h : k < 26) (hit : fitted (shape_at k) zeros s ≡ Some f) (r : Option Line) (m : r ≡ line_of k f) (short : length s ≤ 80) where
     Source : Type 0
     Source = (l : Line) × (index l ≡ k) × Good (shape_at k) (values l) × (s ≡ print (shape_at k) (values l)) × (f ≡ pushes zeros (values l))
 
@@ -237,7 +237,7 @@ module _ (s : List ℕ) where
     unfolding There
     text_here l e = sym (there l).2 ∙ ap shape_at e
 
-    answers : (l : Line) → index l ≡ k → f ≡ pushes zeros (values l) → r ≡ parsed.Line l
+    answers : (l : Line) → index l ≡ k → f ≡ pushes zeros (values l) → r ≡ Some l
     unfolding There
     answers l e p = m ∙ ap₂ line_of (sym e) p ∙ (there l).0
 
@@ -248,57 +248,57 @@ module _ (s : List ℕ) where
         let u : print (bytes (shape_of l)) (values l) ≡ s = ap (λ (x : List ℕ). print x (values l)) t ∙ sym p in
         (record { good = subst (λ (x : List ℕ). Good x (values l)) (sym t) g; short = subst (λ (x : List ℕ). length x ≤ 80) (sym u) short }, u)
 
-    only_here : (l : Line) → r ≡ parsed.Line l → Legal l × (text l ≡ s)
+    only_here : (l : Line) → r ≡ Some l → Legal l × (text l ≡ s)
     unfolding Source
     only_here l e =
         let q = source in
-        let a : r ≡ parsed.Line q.0 = answers q.0 q.1 q.4 in
+        let a : r ≡ Some q.0 = answers q.0 q.1 q.4 in
         let same : q.0 ≡ l = cc in
         subst (λ (x : Line). Legal x × (text x ≡ s)) same (legal q.0 q.1 q.2 q.3)
 
-    all_here : (l : Line) → Legal l → text l ≡ s → r ≡ parsed.Line l
+    all_here : (l : Line) → Legal l → text l ≡ s → r ≡ Some l
     unfolding text There
     all_here l g t =
         let shape : shape_at (index l) ≡ bytes (shape_of l) = (there l).2 in
         decided (eqb k (index l))
         (λ e. let i : index l ≡ k = sym (eqb-true _ _ e) in
         let b : bytes (shape_of l) ≡ shape_at k = text_here l i in
-        let j : fitted (shape_at k) zeros s ≡ Hit (pushes zeros (values l)) =
-        subst (λ (x : List ℕ). fitted (shape_at k) zeros x ≡ Hit (pushes zeros (values l))) (ap (λ (x : List ℕ). print x (values l)) (sym b) ∙ t)
+        let j : fitted (shape_at k) zeros s ≡ Some (pushes zeros (values l)) =
+        subst (λ (x : List ℕ). fitted (shape_at k) zeros x ≡ Some (pushes zeros (values l))) (ap (λ (x : List ℕ). print x (values l)) (sym b) ∙ t)
         (complete (shape_at k) (sane_at k h) zeros (values l) (subst (λ (x : List ℕ). Good x (values l)) b g.good)) in
         let p : f ≡ pushes zeros (values l) = cc in
         answers l i p)
-        (λ e. let j : fitted (shape_at k) zeros s ≡ Miss =
-        subst (λ (x : List ℕ). fitted (shape_at k) zeros x ≡ Miss) (ap (λ (x : List ℕ). print x (values l)) shape ∙ t)
+        (λ e. let j : fitted (shape_at k) zeros s ≡ None =
+        subst (λ (x : List ℕ). fitted (shape_at k) zeros x ≡ None) (ap (λ (x : List ℕ). print x (values l)) shape ∙ t)
         (other (shape_at k) (shape_at (index l)) (apart_at k (index l) h (there l).1 (eqb-false _ _ e)) zeros (values l)) in
         absurd (missed (sym j ∙ hit)))
 
     pub Reads-hit : Reads s r
     Reads-hit = record { only = only_here; all = all_here }
 
-  pub bad_is_none : {l : Line} → parsed.Bad ≡ parsed.Line l → ⊥
+  pub bad_is_none : {l : Line} → None ≡ Some l → ⊥
   bad_is_none e = let z : ◌≡◌ {A = ℕ} 0 1 = cc in omega arith
 
   -- under none
-  pub reads_none : NoneBefore s 26 → Reads s parsed.Bad
+  pub reads_none : NoneBefore s 26 → Reads s None
   unfolding text There
   reads_none h = record {
     only = λ l e. absurd (bad_is_none e);
     all = λ l g t.
         let w = there l in
-        let j : fitted (bytes (shape_of l)) zeros s ≡ Hit (pushes zeros (values l)) =
-        subst (λ (x : List ℕ). fitted (bytes (shape_of l)) zeros x ≡ Hit (pushes zeros (values l))) t
+        let j : fitted (bytes (shape_of l)) zeros s ≡ Some (pushes zeros (values l)) =
+        subst (λ (x : List ℕ). fitted (bytes (shape_of l)) zeros x ≡ Some (pushes zeros (values l))) t
         (complete (bytes (shape_of l)) (subst (λ (x : List ℕ). sane x ≡ true) w.2 (sane_at (index l) w.1)) zeros (values l) g.good) in
-        absurd (missed (sym (subst (λ (x : List ℕ). fitted x zeros s ≡ Miss) w.2 (h (index l) w.1)) ∙ j));
+        absurd (missed (sym (subst (λ (x : List ℕ). fitted x zeros s ≡ None) w.2 (h (index l) w.1)) ∙ j));
   }
 
-  pub Reads-long : 80 < length s → Reads s parsed.Bad
+  pub Reads-long : 80 < length s → Reads s None
   Reads-long h = record {
     only = λ l e. absurd (bad_is_none e);
     all = λ l g t. let u : length (text l) ≡ length s = ap length t in let v = g.short in absurd (omega arith);
   }
 
-pub one_more : (s : List ℕ) (k : ℕ) → NoneBefore s k → fitted (shape_at k) zeros s ≡ Miss → NoneBefore s (k + 1)
+pub one_more : (s : List ℕ) (k : ℕ) → NoneBefore s k → fitted (shape_at k) zeros s ≡ None → NoneBefore s (k + 1)
 one_more s k h e j m =
     decided (eqb j k)
     (λ d. ap (λ (x : ℕ). fitted (shape_at x) zeros s) (eqb-true j k d) ∙ e)

@@ -9,17 +9,20 @@ use lib.ListN.{length, get_or, drop, drop_of_length-le}
 use lib.Seq.{drop-cons}
 use Rattle.text.specs.Shape.{number, word, kind, byte, item_of}
 use Rattle.text.specs.Taken.{Taken, got, past, none, nibble, more, number_at, word_at, kind_at, byte_at}
-use Rattle.text.specs.Fit.{Stands}
-use Rattle.text.specs.declared.shapes.Step.TheVariants.{Got, Past, Miss}
+use Rattle.std.specs.Prelude.{Some, None}
+use Rattle.text.specs.Fit.{Gets, Passes}
 
-pub as_got : (s : List ℕ) (v n : ℕ) (x : Taken) → n ≤ length s → x ≡ got v (drop n s) → Stands s (Got v n) x
-as_got s v n x h e = subst (λ (y : Taken). Stands s (Got v n) y) (sym e) (refl, h, refl)
+pub Gets-some : (s : List ℕ) (v n : ℕ) (x : Taken) → n ≤ length s → x ≡ got v (drop n s) → Gets s (Some (v, n)) x
+Gets-some s v n x h e = subst (Gets s (Some (v, n))) (sym e) (refl, h, refl)
 
-pub as_past : (s : List ℕ) (n : ℕ) (x : Taken) → n ≤ length s → x ≡ past (drop n s) → Stands s (Past n) x
-as_past s n x h e = subst (λ (y : Taken). Stands s (Past n) y) (sym e) (h, refl)
+pub Gets-none : (s : List ℕ) (x : Taken) → x ≡ none → Gets s None x
+Gets-none s x e = subst (Gets s None) (sym e) tt
 
-pub as_miss : (s : List ℕ) (x : Taken) → x ≡ none → Stands s Miss x
-as_miss s x e = subst (λ (y : Taken). Stands s Miss y) (sym e) tt
+pub Passes-some : (s : List ℕ) (n : ℕ) (x : Taken) → n ≤ length s → x ≡ past (drop n s) → Passes s (Some n) x
+Passes-some s n x h e = subst (Passes s (Some n)) (sym e) (h, refl)
+
+pub Passes-none : (s : List ℕ) (x : Taken) → x ≡ none → Passes s None x
+Passes-none s x e = subst (Passes s None) (sym e) tt
 
 -- a list from a place on: what stands there, and the list from the next place on
 pub drop_next : (s : List ℕ) (i : ℕ) → i < length s → drop i s ≡ get_or s i 0 ∷ drop (i + 1) s

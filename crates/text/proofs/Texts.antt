@@ -11,10 +11,10 @@ use Rattle.partner.specs.declared.calls.Call.TheVariants as call
 use Rattle.text.specs.Shape.{bytes, glyph, digits, decimal, hexes, letter, item_of, print}
 use Rattle.text.specs.Taken.{nibble, more, number_at, word_at, kind_at, byte_at}
 use Rattle.text.specs.Fit.{fitted}
-use Rattle.text.specs.Line.{text, read_from, reading_of}
+use Rattle.text.specs.Line.{text, read_rows, reading_of}
 use Rattle.text.specs.Spoken.{replied, bad, not_opened, end, spoken}
 use Rattle.text.specs.declared.lines.Line.TheVariants as line
-use Rattle.text.specs.declared.lines.Parsed.TheVariants as parsed
+use Rattle.std.specs.Prelude.{None}
 
 -- the input of 01's example
 pub texts :
@@ -89,12 +89,12 @@ more_sayings = (refl, refl, refl, refl, refl)
 
 -- a leading zero, eleven digits, a tag past 32 bits, a capital letter, a capital digit, a byte too many, and no byte at all are no lines
 pub bads :
-    (reading_of (bytes "kill=01") ≡ parsed.Bad)
-    × (reading_of (bytes "kill=10000000000") ≡ parsed.Bad)
-    × (reading_of (bytes "record=z a=0 tag=4294967296") ≡ parsed.Bad)
-    × (reading_of (bytes "look=Z a=0") ≡ parsed.Bad)
-    × (reading_of (bytes "label=0 x=0000000000000000000000000000000A z=00000000000000000000000000000000") ≡ parsed.Bad)
-    × (reading_of (bytes "gate=h a=0 ") ≡ parsed.Bad)
-    × (reading_of (bytes "") ≡ parsed.Bad)
-unfolding reading_of read_from fitted item_of nibble more number_at word_at kind_at byte_at
+    (reading_of (bytes "kill=01") ≡ None)
+    × (reading_of (bytes "kill=10000000000") ≡ None)
+    × (reading_of (bytes "record=z a=0 tag=4294967296") ≡ None)
+    × (reading_of (bytes "look=Z a=0") ≡ None)
+    × (reading_of (bytes "label=0 x=0000000000000000000000000000000A z=00000000000000000000000000000000") ≡ None)
+    × (reading_of (bytes "gate=h a=0 ") ≡ None)
+    × (reading_of (bytes "") ≡ None)
+unfolding reading_of read_rows fitted item_of nibble more number_at word_at kind_at byte_at
 bads = (refl, refl, refl, refl, refl, refl, refl)

@@ -8,6 +8,13 @@ use lib.Dec.{leb}
 use lib.ListN.{length, get_or, drop, set, length-append, drop_of_length-le}
 use lib.Seq.{sets, length-sets, set_out, length-take-le}
 use Rattle.text.proofs.Tests.{decided}
+use denote.Ref.{Bor}
+use Rattle.std.specs.Prelude.{Option, Some, None, unwrap_or, option_copied}
+use Rattle.std.specs.Slice.Iter.{iter_rest, iter_steps}
+use Rattle.std.proofs.Common.{Iter}
+use Rattle.text.specs.Items.{place_in}
+use Rattle.text.specs.declared.items.Place.{Place}
+use Rattle.text.specs.declared.items.Place.TheVariants.{Number, Tag, Word, Kind}
 use Rattle.text.specs.Shape.{Item, number, word, kind, byte, item_of, glyph, digits, decimal, hexes, first, rest, shown, left, print}
 use Rattle.text.specs.Wrote.{Wrote}
 use Rattle.text.proofs.Digits.{longer}
@@ -80,25 +87,23 @@ unfolding hexes
 hexes_more zero v h = absurd (h refl)
 hexes_more (suc n) v h = let e : suc n - 1 ≡ n = omega arith in rw e
 
--- ---- the values
+-- ---- the values: those that are left, one by one, and 0 past the last
 
-pub first_in : (vs : List ℕ) (j : ℕ) → j < length vs → get_or vs j 0 ≡ first (drop j vs)
-first_in vs j h = rw (drop_next vs j h)
+none_first : (vs : List ℕ) → length vs ≡ 0 → (0 ≡ first vs) × (vs ≡ rest vs)
+none_first [] e = (refl, refl)
+none_first (v ∷ vs) e = absurd (omega arith)
 
-pub first_out : (vs : List ℕ) (j : ℕ) → length vs ≤ j → 0 ≡ first (drop j vs)
-first_out vs j h = rw (drop_of_length-le vs h)
+pub next_value : (s t : Iter ℕ) (r : Option (Bor ℕ)) → iter_steps s r t
+    → (unwrap_or (option_copied r) 0 ≡ first (iter_rest s)) × (iter_rest t ≡ rest (iter_rest s))
+next_value s t None h = let e = none_first (iter_rest s) h.0 in (e.0, rw h.1 e.1)
+next_value s t (Some x) h = rw h (refl, refl)
 
-left_none : (x : Item) → [] ≡ left x []
-left_none (number l) = refl
-left_none word = refl
-left_none kind = refl
-left_none (byte b) = refl
-
-pub left_out : (x : Item) (vs : List ℕ) (j : ℕ) → length vs ≤ j → drop j vs ≡ left x (drop j vs)
-left_out x vs j h = rw (drop_of_length-le vs h) (left_none x)
-
-pub rest_in : (vs : List ℕ) (j : ℕ) → j < length vs → drop (j + 1) vs ≡ rest (drop j vs)
-rest_in vs j h = rw (drop_next vs j h)
+-- a place shows the first of them
+left-place : (p : Place) (vs : List ℕ) → left (place_in p) vs ≡ rest vs
+left-place Number vs = refl
+left-place Tag vs = refl
+left-place Word vs = refl
+left-place Kind vs = refl
 
 shown-first : (x : Item) (us : List ℕ) → shown x (first us ∷ []) ≡ shown x us
 shown-first (number l) us = refl
@@ -106,19 +111,25 @@ shown-first word us = refl
 shown-first kind us = refl
 shown-first (byte b) us = refl
 
--- one item more of a shape
-pub print_more : (p vs : List ℕ) (i j v k : ℕ) → i < length p → v ≡ first (drop j vs) → drop k vs ≡ left (item_of (get_or p i 0)) (drop j vs)
-    → (pre t : List ℕ) → pre ++ print (drop i p) (drop j vs) ≡ t → (pre ++ shown (item_of (get_or p i 0)) (v ∷ [])) ++ print (drop (i + 1) p) (drop k vs) ≡ t
-unfolding print
-print_more p vs i j v k h ev ek pre t e =
-    let c : ℕ = get_or p i 0 in
-    append_assoc pre (shown (item_of c) (v ∷ [])) (print (drop (i + 1) p) (drop k vs))
-    ∙ ap₂ (λ (x y : List ℕ). pre ++ (x ++ print (drop (i + 1) p) y)) (ap (λ (z : ℕ). shown (item_of c) (z ∷ [])) ev ∙ shown-first (item_of c) (drop j vs)) ek
-    ∙ rw (drop_next p i h) at e
+-- one item more of a shape, with the values us left of it
+module _ (p : List ℕ) (i : ℕ) (h : i < length p) (x : Item) (e : x ≡ item_of (get_or p i 0)) (vs pre t : List ℕ) (sofar : pre ++ print (drop i p) vs ≡ t) where
+  pub print-item : (pre ++ shown x vs) ++ print (drop (i + 1) p) (left x vs) ≡ t
+  unfolding print
+  print-item =
+      append_assoc pre (shown x vs) (print (drop (i + 1) p) (left x vs))
+      ∙ ap (λ (y : Item). pre ++ (shown y vs ++ print (drop (i + 1) p) (left y vs))) e
+      ∙ rw (drop_next p i h) at sofar
 
-pub print_end : (p vs : List ℕ) (i j : ℕ) → length p ≤ i → (pre t : List ℕ) → pre ++ print (drop i p) (drop j vs) ≡ t → pre ≡ t
+pub print-place : (p : List ℕ) (i : ℕ) → i < length p → (x : Place) → place_in x ≡ item_of (get_or p i 0) → (vs pre t : List ℕ) → pre ++ print (drop i p) vs ≡ t
+    → (v : ℕ) (us : List ℕ) → v ≡ first vs → us ≡ rest vs → (pre ++ shown (place_in x) (v ∷ [])) ++ print (drop (i + 1) p) us ≡ t
+print-place p i h x e vs pre t k v us ev eu =
+    ap₂ (λ (y ws : List ℕ). (pre ++ y) ++ print (drop (i + 1) p) ws)
+    (ap (λ (n : ℕ). shown (place_in x) (n ∷ [])) ev ∙ shown-first (place_in x) vs) (eu ∙ sym (left-place x vs))
+    ∙ print-item p i h (place_in x) e vs pre t k
+
+pub print_end : (p vs : List ℕ) (i : ℕ) → length p ≤ i → (pre t : List ℕ) → pre ++ print (drop i p) vs ≡ t → pre ≡ t
 unfolding print
-print_end p vs i j h pre t e = sym (append-nil pre) ∙ (rw (drop_of_length-le p h) at e)
+print_end p vs i h pre t e = sym (append-nil pre) ∙ (rw (drop_of_length-le p h) at e)
 
 -- ---- a text by another name, and a last digit
 

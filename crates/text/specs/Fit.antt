@@ -1,12 +1,8 @@
 -- A whole text under a shape, as a function on lists, and what a step of the code stands for. Assumes nothing.
-use Rattle.std.specs.Prelude.{ℕ, ◌≤◌, ◌≡◌, List, [], ◌∷◌, length, drop}
+use Rattle.std.specs.Prelude.{ℕ, ◌≤◌, ◌≡◌, List, [], ◌∷◌, length, drop, Option, Some, None}
 use Rattle.text.specs.Shape.{item_of}
 use Rattle.text.specs.Taken.{Taken, got, past, none, taken}
 use Rattle.text.specs.declared.shapes.Five.{Five}
-use Rattle.text.specs.declared.shapes.Fit.{Fit}
-use Rattle.text.specs.declared.shapes.Fit.TheVariants.{Hit, Miss}
-use Rattle.text.specs.declared.shapes.Step.{Step}
-use Rattle.text.specs.declared.shapes.Step.TheVariants as step
 
 -- ---- the values that were read, the last of them in e
 
@@ -22,28 +18,33 @@ pushes f (v ∷ vs) = pushes (pushed f v) vs
 
 -- ---- the items of a shape one after the other, to the text's end
 
-abbrev pub onward : (ℕ → List ℕ → Fit) → (List ℕ → Fit) → Taken → Fit
+abbrev pub onward : (ℕ → List ℕ → Option Five) → (List ℕ → Option Five) → Taken → Option Five
 onward f g (got v t) = f v t
 onward f g (past t) = g t
-onward f g none = Miss
+onward f g none = None
 
-abbrev pub ended : List ℕ → Five → Fit
-ended [] f = Hit f
-ended (b ∷ t) f = Miss
+abbrev pub ended : List ℕ → Five → Option Five
+ended [] f = Some f
+ended (b ∷ t) f = None
 
-unfoldable pub fitted : List ℕ → Five → List ℕ → Fit
+unfoldable pub fitted : List ℕ → Five → List ℕ → Option Five
 fitted [] f t = ended t f
 fitted (c ∷ p) f t = onward (λ v u. fitted p (pushed f v) u) (λ u. fitted p f u) (taken (item_of c) t)
 
--- ---- a step at a place of the text s is what was taken, with the place that the rest of the text starts at
+-- ---- what a place or a byte took of the text s, where: its value and the place after it
 
-abbrev pub Stands : List ℕ → Step → Taken → Type 0
-Stands s (step.Got v n) (got w t) = (v ≡ w) × (n ≤ length s) × (drop n s ≡ t)
-Stands s (step.Got v n) (past t) = ⊥
-Stands s (step.Got v n) none = ⊥
-Stands s (step.Past n) (got w t) = ⊥
-Stands s (step.Past n) (past t) = (n ≤ length s) × (drop n s ≡ t)
-Stands s (step.Past n) none = ⊥
-Stands s step.Miss (got w t) = ⊥
-Stands s step.Miss (past t) = ⊥
-Stands s step.Miss none = Unit {0}
+abbrev pub Gets : (s : List ℕ) → Option (ℕ × ℕ) → Taken → Type 0
+Gets s (Some r) (got v t) = (r.0 ≡ v) × (r.1 ≤ length s) × (drop r.1 s ≡ t)
+Gets s (Some r) (past t) = ⊥
+Gets s (Some r) none = ⊥
+Gets s None (got v t) = ⊥
+Gets s None (past t) = ⊥
+Gets s None none = Unit {0}
+
+abbrev pub Passes : (s : List ℕ) → Option ℕ → Taken → Type 0
+Passes s (Some n) (got v t) = ⊥
+Passes s (Some n) (past t) = (n ≤ length s) × (drop n s ≡ t)
+Passes s (Some n) none = ⊥
+Passes s None (got v t) = ⊥
+Passes s None (past t) = ⊥
+Passes s None none = Unit {0}

@@ -1,6 +1,7 @@
 -- The definitions that the contracts of `text` cite.
 -- The language of shapes: how a shape is printed, and what is read by it.
 pub mod Shape
+pub mod Items
 pub mod Taken
 pub mod Fit
 -- The lines of the input, and the reading that is the inverse of their texts.

@@ -1,6 +1,6 @@
 -- The lines of the input, after 01, "The line program": a line's text is its shape with its values, and reading is the inverse of that. Qubits, events
 -- and ids are any numbers of at most ten digits here: what is too large is refused by the call, or by the program. Assumes nothing.
-use Rattle.std.specs.Prelude.{ℕ, zero, suc, ◌+◌, ◌^◌, ◌≤◌, ◌<◌, ◌≡◌, cond, List, [], ◌∷◌, eqb, ltb, length, get_or}
+use Rattle.std.specs.Prelude.{ℕ, ◌≤◌, ◌≡◌, cond, List, [], ◌∷◌, ◌++◌, eqb, ltb, length, get_or, Option, Some, None}
 use Prim.Native.String.{String}
 use Rattle.frame.specs.declared.axes.Kind.{Kind}
 use Rattle.frame.specs.declared.axes.Kind.TheVariants as kind
@@ -13,12 +13,8 @@ use Rattle.partner.specs.declared.calls.Call.TheVariants as call
 use Rattle.text.specs.Shape.{bytes, Good, Filled, fill, printed}
 use Rattle.text.specs.Fit.{fitted, zeros}
 use Rattle.text.specs.declared.shapes.Five.{Five}
-use Rattle.text.specs.declared.shapes.Fit.{Fit}
-use Rattle.text.specs.declared.shapes.Fit.TheVariants.{Hit, Miss}
 use Rattle.text.specs.declared.lines.Line.{Line}
 use Rattle.text.specs.declared.lines.Line.TheVariants as line
-use Rattle.text.specs.declared.lines.Parsed.{Parsed}
-use Rattle.text.specs.declared.lines.Parsed.TheVariants as parsed
 
 -- ---- the text of a line
 
@@ -87,32 +83,36 @@ pub record Legal (l : Line) : Type 0 where
   pub short : length (text l) ≤ 80
 
 -- a line exactly where the text is that line's
-pub record Reads (s : List ℕ) (r : Parsed) : Type 0 where
-  pub only : (l : Line) → r ≡ parsed.Line l → Legal l × (text l ≡ s)
-  pub all : (l : Line) → Legal l → text l ≡ s → r ≡ parsed.Line l
+pub record Reads (s : List ℕ) (r : Option Line) : Type 0 where
+  pub only : (l : Line) → r ≡ Some l → Legal l × (text l ≡ s)
+  pub all : (l : Line) → Legal l → text l ≡ s → r ≡ Some l
 
 -- ---- the same as a function: the first of the shapes that hits. proofs/Unique.antt shows that it meets `Reads`, and that `Reads` admits no other.
 
-abbrev pub kind_numbered : ℕ → Kind
+unfoldable pub kind_numbered : ℕ → Kind
 kind_numbered k = cond (eqb k 0) kind.X (cond (eqb k 1) kind.Y (cond (eqb k 2) kind.Z kind.P))
 
 -- a shape, and what it makes of the values that were read by it
 pub record Row : Type 0 where
   pub shape : String
-  pub makes : Five → Parsed
+  pub makes : Five → Line
 
 abbrev pub row : String → (Five → Line) → Row
-row p f = record { shape = p; makes = λ v. parsed.Line (f v) }
+row p f = record { shape = p; makes = f }
 
--- all of them, as the code tries them
-abbrev pub rows : List Row
-rows =
+-- all of them, as the code tries them: the header and the labels, the gates, the other calls, the look
+abbrev pub header_rows : List Row
+header_rows =
     row "qubits=#" (λ f. line.Qubits f.e) ∷
     row "form=scalar" (λ f. line.Form form.Scalar) ∷
     row "form=sliced" (λ f. line.Form form.Sliced) ∷
     row "events=#" (λ f. line.Events f.e) ∷
     row "steps=#" (λ f. line.Steps f.e) ∷
     row "label=# x=%% z=%%" (λ f. line.Label f.a f.b f.c f.d f.e) ∷
+    []
+
+abbrev pub gate_rows : List Row
+gate_rows =
     row "gate=h a=#" (λ f. line.Call (call.Gate (gate.H f.e))) ∷
     row "gate=x a=#" (λ f. line.Call (call.Gate (gate.X f.e))) ∷
     row "gate=y a=#" (λ f. line.Call (call.Gate (gate.Y f.e))) ∷
@@ -124,6 +124,10 @@ rows =
     row "gate=cz a=# b=#" (λ f. line.Call (call.Gate (gate.Cz f.d f.e))) ∷
     row "gate=cy a=# b=#" (λ f. line.Call (call.Gate (gate.Cy f.d f.e))) ∷
     row "gate=swap a=# b=#" (λ f. line.Call (call.Gate (gate.Swap f.d f.e))) ∷
+    []
+
+abbrev pub call_rows : List Row
+call_rows =
     row "turn=# kind=? a=#" (λ f. line.Call (call.Turn (kind_numbered f.d) f.c f.e)) ∷
     row "record=? a=# tag=$" (λ f. line.Call (call.Record (kind_numbered f.c) f.d f.e)) ∷
     row "measure=#" (λ f. line.Call (call.Measure f.e)) ∷
@@ -132,29 +136,32 @@ rows =
     row "ccz=# b=# c=#" (λ f. line.Call (call.Ccz f.c f.d f.e)) ∷
     row "kill=#" (λ f. line.Call (call.Kill f.e)) ∷
     row "clear=all" (λ f. line.Call call.Clear) ∷
+    []
+
+abbrev pub look_rows : List Row
+look_rows =
     row "look=? a=#" (λ f. line.Look (kind_numbered f.d) f.e) ∷
     []
 
+abbrev pub rows : List Row
+rows = header_rows ++ (gate_rows ++ (call_rows ++ look_rows))
+
 abbrev pub row_at : ℕ → Row
-row_at k = get_or rows k (record { shape = ""; makes = λ v. parsed.Bad })
+row_at k = get_or rows k (row "" (λ f. line.Call call.Clear))
 
 abbrev pub shape_at : ℕ → List ℕ
 shape_at k = bytes (row_at k).shape
 
-abbrev pub line_of : ℕ → Five → Parsed
-line_of k = (row_at k).makes
+abbrev pub line_of : ℕ → Five → Option Line
+line_of k f = Some ((row_at k).makes f)
 
--- the values that shape k was read with have a tag, where it has one (the record line, number 18), of 32 bits
-abbrev pub TagFits : ℕ → Five → Type 0
-TagFits k f = k ≡ 18 → f.e < 2 ^ 32
+abbrev pub on_fit : Option Five → (Five → Line) → Option Line → Option Line
+on_fit (Some f) g r = Some (g f)
+on_fit None g r = r
 
-abbrev pub on_fit : Fit → (Five → Parsed) → Parsed → Parsed
-on_fit (Hit f) g r = g f
-on_fit Miss g r = r
+unfoldable pub read_rows : List Row → List ℕ → Option Line
+read_rows [] s = None
+read_rows (r ∷ rs) s = on_fit (fitted (bytes r.shape) zeros s) r.makes (read_rows rs s)
 
-unfoldable pub read_from : ℕ → ℕ → List ℕ → Parsed
-read_from zero k s = parsed.Bad
-read_from (suc n) k s = on_fit (fitted (shape_at k) zeros s) (line_of k) (read_from n (k + 1) s)
-
-unfoldable pub reading_of : List ℕ → Parsed
-reading_of s = cond (ltb 80 (length s)) parsed.Bad (read_from 26 0 s)
+unfoldable pub reading_of : List ℕ → Option Line
+reading_of s = cond (ltb 80 (length s)) None (read_rows rows s)

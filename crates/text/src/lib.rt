@@ -6,6 +6,7 @@
 #![tactic(auto)]
 
 pub mod answers;
+mod items;
 pub mod lines;
 pub mod shapes;
 pub mod writing;

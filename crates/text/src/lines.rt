@@ -1,14 +1,17 @@
-// The lines of the input: each of the 26 shapes that 01 has is tried in turn, and the one that hits makes the line of its values.
-ghost use Rattle.std.specs.Prelude.{◌≡◌, ◌≤◌, ◌<◌};
+// The lines of the input: each of the 26 shapes that 01 has is tried in turn, and the one that fits makes the line of its values.
+ghost use Rattle.std.specs.Prelude.{◌≡◌, option_map};
 ghost use Rattle.partner.specs.declared.calls.Call.TheVariants as call;
-ghost use Rattle.text.specs.Fit.{fitted, zeros};
-ghost use Rattle.text.specs.Line.{shape_at, kind_numbered, line_of, TagFits, Reads, reading_of};
+ghost use Rattle.text.specs.declared.lines.Line.TheVariants as line;
+ghost use Rattle.text.specs.Line.{kind_numbered, header_rows, gate_rows, call_rows, look_rows, Reads, read_rows, reading_of};
 
-use super::shapes::{Fit, Five, read_by};
+use super::shapes::read_by;
 use frame::axes::Kind;
 use gating::gates::Gate;
 use history::forms::Form;
 use partner::calls::Call;
+
+// A line has at most this many bytes.
+pub const LINE_BYTES: usize = 80;
 
 // A line of the input, by value: the four of the header, a label with the high and the low word of X and of Z, a call that writes, or a look.
 #[derive(Clone, Copy)]
@@ -31,171 +34,160 @@ pub enum Line {
     },
 }
 
-#[derive(Clone, Copy)]
-pub enum Parsed {
-    Line(Line),
-    Bad,
-}
-
 // The kind of a number below 4, as the letter's place gives it.
+#[tactic(auto, unfolding(crate::specs::Line::kind_numbered))]
 fn kind_of(k: u64) -> Kind
     ensures { result ≡ kind_numbered k }
 {
-    if k == 0 {
-        return Kind::X;
-    }
-    if k == 1 {
-        return Kind::Y;
-    }
-    if k == 2 {
-        return Kind::Z;
-    }
-    Kind::P
-}
-
-// The text under shape k.
-fn attempt(k: usize, s: &[u8]) -> Fit
-    requires { k < 26 }
-    ensures { result ≡ fitted (shape_at k) zeros s.now }
-{
     match k {
-        0 => read_by(b"qubits=#", s),
-        1 => read_by(b"form=scalar", s),
-        2 => read_by(b"form=sliced", s),
-        3 => read_by(b"events=#", s),
-        4 => read_by(b"steps=#", s),
-        5 => read_by(b"label=# x=%% z=%%", s),
-        6 => read_by(b"gate=h a=#", s),
-        7 => read_by(b"gate=x a=#", s),
-        8 => read_by(b"gate=y a=#", s),
-        9 => read_by(b"gate=z a=#", s),
-        10 => read_by(b"gate=s a=#", s),
-        11 => read_by(b"gate=sdg a=#", s),
-        12 => read_by(b"gate=sx a=#", s),
-        13 => read_by(b"gate=cnot a=# b=#", s),
-        14 => read_by(b"gate=cz a=# b=#", s),
-        15 => read_by(b"gate=cy a=# b=#", s),
-        16 => read_by(b"gate=swap a=# b=#", s),
-        17 => read_by(b"turn=# kind=? a=#", s),
-        18 => read_by(b"record=? a=# tag=$", s),
-        19 => read_by(b"measure=#", s),
-        20 => read_by(b"reset=#", s),
-        21 => read_by(b"ccx=# b=# c=#", s),
-        22 => read_by(b"ccz=# b=# c=#", s),
-        23 => read_by(b"kill=#", s),
-        24 => read_by(b"clear=all", s),
-        _ => read_by(b"look=? a=#", s),
+        0 => Kind::X,
+        1 => Kind::Y,
+        2 => Kind::Z,
+        _ => Kind::P,
     }
 }
 
-// ---- the line that a shape has with its values: of the header and the labels, a gate, another call, a look
+// ---- the lines by family, each the first of its shapes that fits: the header and the labels, a gate, another call, a look
 
-fn heading(k: usize, f: Five) -> Line
-    requires { k < 6 }
-    ensures { Parsed.Line result ≡ line_of k f }
+#[tactic(auto, unfolding(crate::specs::Line::read_rows))]
+fn read_header(s: &[u8]) -> Option<Line>
+    ensures { result ≡ read_rows header_rows s.now }
 {
-    match k {
-        0 => Line::Qubits(f.e),
-        1 => Line::Form(Form::Scalar),
-        2 => Line::Form(Form::Sliced),
-        3 => Line::Events(f.e),
-        4 => Line::Steps(f.e),
-        _ => Line::Label {
+    if let Some(f) = read_by(b"qubits=#", s) {
+        return Some(Line::Qubits(f.e));
+    }
+    if read_by(b"form=scalar", s).is_some() {
+        return Some(Line::Form(Form::Scalar));
+    }
+    if read_by(b"form=sliced", s).is_some() {
+        return Some(Line::Form(Form::Sliced));
+    }
+    if let Some(f) = read_by(b"events=#", s) {
+        return Some(Line::Events(f.e));
+    }
+    if let Some(f) = read_by(b"steps=#", s) {
+        return Some(Line::Steps(f.e));
+    }
+    if let Some(f) = read_by(b"label=# x=%% z=%%", s) {
+        return Some(Line::Label {
             q: f.a,
             xh: f.b,
             xl: f.c,
             zh: f.d,
             zl: f.e,
-        },
+        });
     }
+    None
 }
 
 // Of a gate on two qubits the first is the control.
-fn gate_of(k: usize, f: Five) -> Gate
-    requires { (6 ≤ k) × (k < 17) }
-    ensures { Parsed.Line (Line.Call (call.Gate result)) ≡ line_of k f }
+#[tactic(auto, unfolding(crate::specs::Line::read_rows))]
+fn read_gate(s: &[u8]) -> Option<Gate>
+    ensures { option_map (λ g. line.Call (call.Gate g)) result ≡ read_rows gate_rows s.now }
 {
-    let c = f.d as usize;
-    let q = f.e as usize;
-    match k {
-        6 => Gate::H(q),
-        7 => Gate::X(q),
-        8 => Gate::Y(q),
-        9 => Gate::Z(q),
-        10 => Gate::S(q),
-        11 => Gate::Sdg(q),
-        12 => Gate::Sx(q),
-        13 => Gate::Cnot(c, q),
-        14 => Gate::Cz(c, q),
-        15 => Gate::Cy(c, q),
-        _ => Gate::Swap(c, q),
+    if let Some(f) = read_by(b"gate=h a=#", s) {
+        return Some(Gate::H(f.e as usize));
     }
+    if let Some(f) = read_by(b"gate=x a=#", s) {
+        return Some(Gate::X(f.e as usize));
+    }
+    if let Some(f) = read_by(b"gate=y a=#", s) {
+        return Some(Gate::Y(f.e as usize));
+    }
+    if let Some(f) = read_by(b"gate=z a=#", s) {
+        return Some(Gate::Z(f.e as usize));
+    }
+    if let Some(f) = read_by(b"gate=s a=#", s) {
+        return Some(Gate::S(f.e as usize));
+    }
+    if let Some(f) = read_by(b"gate=sdg a=#", s) {
+        return Some(Gate::Sdg(f.e as usize));
+    }
+    if let Some(f) = read_by(b"gate=sx a=#", s) {
+        return Some(Gate::Sx(f.e as usize));
+    }
+    if let Some(f) = read_by(b"gate=cnot a=# b=#", s) {
+        return Some(Gate::Cnot(f.d as usize, f.e as usize));
+    }
+    if let Some(f) = read_by(b"gate=cz a=# b=#", s) {
+        return Some(Gate::Cz(f.d as usize, f.e as usize));
+    }
+    if let Some(f) = read_by(b"gate=cy a=# b=#", s) {
+        return Some(Gate::Cy(f.d as usize, f.e as usize));
+    }
+    if let Some(f) = read_by(b"gate=swap a=# b=#", s) {
+        return Some(Gate::Swap(f.d as usize, f.e as usize));
+    }
+    None
 }
 
-fn call_of(k: usize, f: Five) -> Call
-    requires { (17 ≤ k) × (k < 25) × TagFits k f }
-    ensures { Parsed.Line (Line.Call result) ≡ line_of k f }
+#[tactic(auto, unfolding(crate::specs::Line::read_rows))]
+fn read_call(s: &[u8]) -> Option<Call>
+    ensures { option_map line.Call result ≡ read_rows call_rows s.now }
 {
-    let a = f.c as usize;
-    let b = f.d as usize;
-    let q = f.e as usize;
-    match k {
-        17 => Call::Turn {
+    if let Some(f) = read_by(b"turn=# kind=? a=#", s) {
+        return Some(Call::Turn {
             kind: kind_of(f.d),
             k: f.c,
-            q: q,
-        },
-        18 => {
-            let tag = f.e as u32;
-            Call::Record {
-                kind: kind_of(f.c),
-                q: b,
-                tag: tag,
-            }
-        }
-        19 => Call::Measure(q),
-        20 => Call::Reset(q),
-        21 => Call::Ccx(a, b, q),
-        22 => Call::Ccz(a, b, q),
-        23 => Call::Kill(q),
-        _ => Call::Clear,
+            q: f.e as usize,
+        });
     }
+    if let Some(f) = read_by(b"record=? a=# tag=$", s) {
+        return Some(Call::Record {
+            kind: kind_of(f.c),
+            q: f.d as usize,
+            tag: f.e as u32,
+        });
+    }
+    if let Some(f) = read_by(b"measure=#", s) {
+        return Some(Call::Measure(f.e as usize));
+    }
+    if let Some(f) = read_by(b"reset=#", s) {
+        return Some(Call::Reset(f.e as usize));
+    }
+    if let Some(f) = read_by(b"ccx=# b=# c=#", s) {
+        return Some(Call::Ccx(f.c as usize, f.d as usize, f.e as usize));
+    }
+    if let Some(f) = read_by(b"ccz=# b=# c=#", s) {
+        return Some(Call::Ccz(f.c as usize, f.d as usize, f.e as usize));
+    }
+    if let Some(f) = read_by(b"kill=#", s) {
+        return Some(Call::Kill(f.e as usize));
+    }
+    if read_by(b"clear=all", s).is_some() {
+        return Some(Call::Clear);
+    }
+    None
 }
 
-fn made(k: usize, f: Five) -> Line
-    requires { (k < 26) × TagFits k f }
-    ensures { Parsed.Line result ≡ line_of k f }
+#[tactic(auto, unfolding(crate::specs::Line::read_rows))]
+fn read_look(s: &[u8]) -> Option<Line>
+    ensures { result ≡ read_rows look_rows s.now }
 {
-    if k < 6 {
-        return heading(k, f);
-    }
-    if k < 17 {
-        return Line::Call(Call::Gate(gate_of(k, f)));
-    }
-    if k < 25 {
-        return Line::Call(call_of(k, f));
-    }
-    let q = f.e as usize;
-    Line::Look {
+    let f = read_by(b"look=? a=#", s)?;
+    Some(Line::Look {
         kind: kind_of(f.d),
-        q: q,
-    }
+        q: f.e as usize,
+    })
 }
 
 // Reads a line, given without its newline.
-pub fn read_line(s: &[u8]) -> Parsed
+#[tactic(auto, using(crate::proofs::Unique::readings))]
+pub fn read_line(s: &[u8]) -> Option<Line>
     ensures reads { Reads s.now result }
     ensures is { result ≡ reading_of s.now }
 {
-    if s.len() > 80 {
-        return Parsed::Bad;
+    if s.len() > LINE_BYTES {
+        return None;
     }
-    let mut k: usize = 0;
-    while k < 26 {
-        if let Fit::Hit(f) = attempt(k, s) {
-            return Parsed::Line(made(k, f));
-        }
-        k += 1;
+    if let Some(l) = read_header(s) {
+        return Some(l);
     }
-    Parsed::Bad
+    if let Some(g) = read_gate(s) {
+        return Some(Line::Call(Call::Gate(g)));
+    }
+    if let Some(c) = read_call(s) {
+        return Some(Line::Call(c));
+    }
+    read_look(s)
 }

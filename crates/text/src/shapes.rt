@@ -1,8 +1,15 @@
 // A text under a shape (specs/Shape.antt), item by item: what stands at a place of the text, and what the whole of it is.
-ghost use Rattle.std.specs.Prelude.{◌≡◌, ◌≤◌, length, drop};
-ghost use Rattle.text.specs.Shape.{item_of};
-ghost use Rattle.text.specs.Taken.{nibble as Taken·nibble, number_at, word_at, kind_at, byte_at, taken};
-ghost use Rattle.text.specs.Fit.{Stands, fitted, zeros, pushed};
+ghost use Rattle.std.specs.Prelude.{◌≡◌, ◌≤◌, ◌<◌, length, drop, IfSome, IfNone};
+ghost use Rattle.text.specs.Items.{place_in};
+ghost use Rattle.text.specs.Taken.{nibble, number_at, word_at, kind_at, byte_at, taken};
+ghost use Rattle.text.specs.Fit.{Gets, Passes, fitted, zeros, pushed};
+
+use super::items::{Item, Place};
+
+// A number has at most ten digits, a tag is one of 32 bits.
+const NUMBERS: u64 = 10_000_000_000;
+
+const TAGS: u64 = 1 << 32;
 
 // The values of a shape, in order, the last of them in e.
 #[derive(Clone, Copy)]
@@ -29,181 +36,113 @@ impl Five {
     }
 }
 
-// What a text is under a shape.
-#[derive(Clone, Copy)]
-pub enum Fit {
-    Hit(Five),
-    Miss,
-}
-
-// What an item of a shape takes: a value, or a byte that has none, and the place after it.
-#[derive(Drop)]
-enum Step {
-    Got(u64, usize),
-    Past(usize),
-    Miss,
-}
-
-// The value of a digit, 16 for every other byte: capital letters are none.
-fn nibble(b: u8) -> u64
-    ensures { result ≡ Taken·nibble b }
+// A digit's value, if it is below the radix: capital letters are no digits.
+#[tactic(auto, unfolding(crate::specs::Taken::nibble))]
+fn digit_of(b: u8, radix: u64) -> Option<u64>
+    requires { radix ≤ 16 }
+    ensures digit { IfSome result (λ d. (d ≡ nibble b) × (d < radix)) }
+    ensures none { IfNone result (radix ≤ nibble b) }
 {
-    if b < 48 {
-        return 16;
-    }
-    if b < 58 {
-        return (b - 48) as u64;
-    }
-    if b < 97 {
-        return 16;
-    }
-    if b < 103 {
-        return (b - 87) as u64;
-    }
-    16
+    let digit = match b {
+        b'0'..=b'9' => b - b'0',
+        b'a'..=b'f' => b - b'a' + 10,
+        _ => return None,
+    };
+    let digit = u64::from(digit);
+    if digit < radix { Some(digit) } else { None }
 }
 
 // A decimal of a number below the limit, without leading zeros.
-fn take_number(s: &[u8], at: usize, limit: u64) -> Step
+#[tactic(auto, using(crate::proofs::Steps::drop_next), unfolding(crate::specs::Taken::number_at, crate::specs::Taken::more))]
+fn take_number(s: &[u8], at: usize, limit: u64) -> Option<(u64, usize)>
     requires { limit ≤ 10000000000 }
-    ensures { Stands s.now result (number_at limit (drop at s.now)) }
+    ensures { Gets s.now result (number_at limit (drop at s.now)) }
 {
-    if s.len() <= at {
-        return Step::Miss;
-    }
-    let mut value = nibble(s[at]);
-    if value >= 10 {
-        return Step::Miss;
-    }
-    let mut i = at + 1;
-    while i < s.len() {
-        let d = nibble(s[i]);
-        if d >= 10 {
-            return Step::Got(value, i);
-        }
+    let mut value = digit_of(*s.get(at)?, 10)?;
+    for i in at + 1..s.len() {
+        let Some(digit) = digit_of(s[i], 10) else {
+            return Some((value, i));
+        };
         if value == 0 {
-            return Step::Miss;
+            return None;
         }
-        let next = value * 10 + d;
-        if next >= limit {
-            return Step::Miss;
+        value = value * 10 + digit;
+        if value >= limit {
+            return None;
         }
-        value = next;
-        i += 1;
     }
-    Step::Got(value, i)
+    Some((value, s.len()))
 }
 
 // Sixteen hexadecimal digits.
-fn take_word(s: &[u8], at: usize) -> Step
+fn take_word(s: &[u8], at: usize) -> Option<(u64, usize)>
     requires { at ≤ length s.now }
-    ensures { Stands s.now result (word_at 16 0 (drop at s.now)) }
+    ensures { Gets s.now result (word_at 16 0 (drop at s.now)) }
 {
     let mut value: u64 = 0;
-    let mut i = at;
-    let mut left: usize = 16;
-    while left > 0 {
-        if s.len() <= i {
-            return Step::Miss;
-        }
-        let d = nibble(s[i]);
-        if d >= 16 {
-            return Step::Miss;
-        }
-        value = value * 16 + d;
-        i += 1;
-        left -= 1;
+    for i in at..at + 16 {
+        value = value * 16 + digit_of(*s.get(i)?, 16)?;
     }
-    Step::Got(value, i)
+    Some((value, at + 16))
 }
 
 // The letter of a kind: x, y, z or p.
-fn take_kind(s: &[u8], at: usize) -> Step
-    ensures { Stands s.now result (kind_at (drop at s.now)) }
+#[tactic(auto, using(crate::proofs::Steps::drop_next), unfolding(crate::specs::Taken::kind_at))]
+fn take_kind(s: &[u8], at: usize) -> Option<(u64, usize)>
+    ensures { Gets s.now result (kind_at (drop at s.now)) }
 {
-    if s.len() <= at {
-        return Step::Miss;
-    }
-    let b = s[at];
-    if b == b'x' {
-        return Step::Got(0, at + 1);
-    }
-    if b == b'y' {
-        return Step::Got(1, at + 1);
-    }
-    if b == b'z' {
-        return Step::Got(2, at + 1);
-    }
-    if b == b'p' {
-        return Step::Got(3, at + 1);
-    }
-    Step::Miss
+    let kind = match *s.get(at)? {
+        b'x' => 0,
+        b'y' => 1,
+        b'z' => 2,
+        b'p' => 3,
+        _ => return None,
+    };
+    Some((kind, at + 1))
 }
 
-fn take_byte(s: &[u8], at: usize, c: u8) -> Step
-    ensures { Stands s.now result (byte_at c (drop at s.now)) }
-{
-    if s.len() <= at {
-        return Step::Miss;
-    }
-    if s[at] == c {
-        Step::Past(at + 1)
-    } else {
-        Step::Miss
-    }
-}
-
-// What the item of a shape's byte c takes at a place of the text.
-fn take(s: &[u8], at: usize, c: u8) -> Step
+// What stands at a place of the text for a place of the shape: its value, and where the text goes on.
+fn take(s: &[u8], at: usize, place: Place) -> Option<(u64, usize)>
     requires { at ≤ length s.now }
-    ensures { Stands s.now result (taken (item_of c) (drop at s.now)) }
+    ensures { Gets s.now result (taken (place_in place) (drop at s.now)) }
 {
-    if c == b'#' {
-        return take_number(s, at, 10000000000);
+    match place {
+        Place::Number => take_number(s, at, NUMBERS),
+        Place::Tag => take_number(s, at, TAGS),
+        Place::Word => take_word(s, at),
+        Place::Kind => take_kind(s, at),
     }
-    if c == b'$' {
-        return take_number(s, at, 4294967296);
-    }
-    if c == b'%' {
-        return take_word(s, at);
-    }
-    if c == b'?' {
-        return take_kind(s, at);
-    }
-    take_byte(s, at, c)
+}
+
+// Goes past a byte.
+#[tactic(auto, using(crate::proofs::Steps::drop_next), unfolding(crate::specs::Taken::byte_at))]
+fn pass(s: &[u8], at: usize, b: u8) -> Option<usize>
+    ensures { Passes s.now result (byte_at b (drop at s.now)) }
+{
+    if *s.get(at)? == b { Some(at + 1) } else { None }
 }
 
 // Reads the whole of a text by a shape.
-pub fn read_by(shape: &[u8], s: &[u8]) -> Fit
+pub fn read_by(shape: &[u8], s: &[u8]) -> Option<Five>
     ensures { result ≡ fitted shape.now zeros s.now }
 {
-    let mut f = Five {
+    let mut values = Five {
         a: 0,
         b: 0,
         c: 0,
         d: 0,
         e: 0,
     };
-    let mut at: usize = 0;
-    let mut i: usize = 0;
-    while i < shape.len() {
-        match take(s, at, shape[i]) {
-            Step::Got(value, next) => {
-                f = f.push(value);
+    let mut at = 0;
+    for &c in shape {
+        match Item::of(c) {
+            Item::Place(place) => {
+                let (value, next) = take(s, at, place)?;
+                values = values.push(value);
                 at = next;
             }
-            Step::Past(next) => {
-                at = next;
-            }
-            Step::Miss => {
-                return Fit::Miss;
-            }
+            Item::Byte(b) => at = pass(s, at, b)?,
         }
-        i += 1;
     }
-    if at == s.len() {
-        Fit::Hit(f)
-    } else {
-        Fit::Miss
-    }
+    if at == s.len() { Some(values) } else { None }
 }

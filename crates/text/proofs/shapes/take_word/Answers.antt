@@ -1,33 +1,42 @@
 -- `shapes::take_word` meets its contract. Assumes nothing.
+use Prim.Native.Nat.{ℕ, ◌+◌, ◌-◌}
 use native.Mathlib.Omega.{arith}
-use mathlib.Core.Path.{◌∙◌}
-use Rattle.text.specs.Taken.{word_at}
+use mathlib.Core.Path.{◌≡◌, ◌∙◌, ap}
+use Rattle.text.specs.Taken.{nibble, word_at}
 use Rattle.text.proofs.Digits.{word_room, word_zero}
-use Rattle.text.proofs.Steps.{as_got, as_miss, end_word, word_none, word_next}
+use Rattle.text.proofs.Steps.{Gets-some, Gets-none, end_word, word_none, word_next}
 use Rattle.text.proofs.shapes.take_word.Goals as goal
 
-pub returns-then-s-i : goal.returns-then-s-i
-returns-then-s-i c = as_miss c.args.s.now _ (c.loop-left.invariant.3 ∙ end_word _ _ _ _ c.loop-left-test.true c.if-s-i.true)
-
-pub returns-then-d-ge16 : goal.returns-then-d-ge16
-returns-then-d-ge16 c =
-    as_miss c.args.s.now _ (c.loop-left.invariant.3 ∙ word_none _ _ c.if-s-i.false _ _ _ c.loop-left-test.true c.nibble-d.ensures c.if-d-ge16.true)
-
 pub overflow_mul-value : goal.overflow_mul-value
-overflow_mul-value c =
-    omega (arith, word_room c.loop-left.left c.loop-left-test.true c.loop-left.invariant.1)
+overflow_mul-value c = omega (arith, word_room (c.args.at + 16 - c.loop-i.i) (omega arith) (omega arith))
 
 pub overflow_add-value : goal.overflow_add-value
-overflow_add-value c =
-    omega (arith, word_room c.loop-left.left c.loop-left-test.true c.loop-left.invariant.1)
+overflow_add-value c = omega (arith, word_room (c.args.at + 16 - c.loop-i.i) (omega arith) (omega arith), c.in_ok-value.ensures.digit.1)
 
-pub loop-left-preserved : goal.loop-left-preserved
-loop-left-preserved c =
-    let t = c.loop-left-test.true in
-    let l = c.loop-left in
-    let room = word_room l.left t l.invariant.1 in
-    (omega arith, omega arith, omega arith, l.invariant.3 ∙ word_next _ _ c.if-s-i.false _ _ _ t c.nibble-d.ensures c.if-d-ge16.false)
+pub returns-in_err-get : goal.returns-in_err-get
+returns-in_err-get c =
+    rw c.from_residual.ensures
+    (Gets-none c.args.s.now _ (c.loop-i.invariant.2 ∙ end_word _ c.loop-i.i _ _ (omega arith) c.in_err-get.ensures.lookup.3))
+
+pub returns-in_err-value : goal.returns-in_err-value
+returns-in_err-value c =
+    let here = c.in_ok-get.ensures.lookup.3 in
+    rw c.from_residual-in_err-value.ensures
+    (Gets-none c.args.s.now _ (c.loop-i.invariant.2 ∙ word_none _ _ here.0 _ _ _ (omega arith) (ap nibble (here.1 0)) c.in_err-value.ensures.none))
+
+pub loop-i-preserved : goal.loop-i-preserved
+loop-i-preserved c =
+    let l = c.loop-i in
+    let here = c.in_ok-get.ensures.lookup.3 in
+    let d = c.in_ok-value.ensures.digit in
+    let k : ℕ = c.args.at + 16 - l.i in
+    let e : c.args.at + 16 - (l.i + 1) ≡ k - 1 = omega arith in
+    let room = word_room k (omega arith) (omega arith) in
+    rw e
+    (omega arith, omega (arith, d.1), l.invariant.2 ∙ word_next _ _ here.0 _ _ _ (omega arith) (d.0 ∙ ap nibble (here.1 0)) d.1)
 
 pub returns : goal.returns
 unfolding word_at
-returns c = as_got _ _ _ _ (omega arith) (c.loop-left.invariant.3 ∙ word_zero c.loop-left.left _ _ (omega arith))
+returns c =
+    let e : c.loop-i.i ≡ c.args.at + 16 = omega arith in
+    Gets-some _ _ _ _ (omega arith) (c.loop-i.invariant.2 ∙ word_zero _ _ _ (omega arith) ∙ rw e)
