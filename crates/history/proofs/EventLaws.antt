@@ -20,9 +20,8 @@ use Rattle.pauli.specs.Sets.{member}
 use Rattle.pauli.proofs.Words.{rest_length}
 use Rattle.lists.specs.Lists.{is_live}
 use Rattle.lists.proofs.ScalarLaws.{live_part, in_words}
-use Rattle.history.specs.declared.events.Told.TheVariants.{Says}
 use Rattle.history.specs.Words.{tag_place, alive_place, count_place, code, body_word, Alive, Holds, Sane}
-use Rattle.history.specs.Readings.{read_of}
+use Rattle.history.specs.Readings.{rotation_of}
 
 -- ---- the word of a body
 
@@ -119,29 +118,23 @@ module _ (f : Form) (n cap l id : ℕ) (m : State) (h : List ℕ) (holds : Holds
   pub read_small : not_readable m.events id ≡ false → get_or h (tag_place cap id) 0 / 4 < 4294967296
   read_small e = omega (arith, (read_Tells e).tag, holds.bodies.small id (readable m.events id e).0)
 
+  -- the sign that the word tells
+  module _ (e : not_readable m.events id ≡ false) (g : ℤ) where
+    pub sign_plus : get_or h (tag_place cap id) 0 % 4 ≡ 1 → g ≡ pos 1 → sign_at (event_at m.events id).body ≡ g
+    sign_plus k s = ⊎_elim (λ u. u.1 ∙ sym s) (λ u. absurd (omega (arith, u.0))) (read_Tells e).sgn
+
+    pub sign_minus : get_or h (tag_place cap id) 0 % 4 ≡ 3 → g ≡ negsuc 0 → sign_at (event_at m.events id).body ≡ g
+    sign_minus k s = ⊎_elim (λ u. absurd (omega (arith, u.0))) (λ u. u.1 ∙ sym s) (read_Tells e).sgn
+
   module _ (e : not_readable m.events id ≡ false) (r : Bool) (q : r ≡ eqb (member (take (length h - alive_place cap l) (drop (alive_place cap l) h)) id) 1) where
-    says : (g : ℤ) → sign_at (event_at m.events id).body ≡ g → Says (get_or h (tag_place cap id) 0 / 4) g r ≡ read_of (reading m.events id)
-    unfolding read_of reading
-    says g s =
-        let t = (read_Tells e).tag in
+    -- what the code answers is the reading
+    pub told : (tag : ℕ) (g : ℤ) → tag ≡ get_or h (tag_place cap id) 0 / 4 → sign_at (event_at m.events id).body ≡ g
+        → record { tag = tag; sign = g; live = r } ≡ rotation_of (reading m.events id)
+    unfolding rotation_of reading
+    told tag g t s =
+        let u = (read_Tells e).tag in
         let v = live_told m.events h (alive_place cap l) id r holds.alive (readable m.events id e).0 q in
-        cc (t, v, s)
-
-    pub Says-plus : get_or h (tag_place cap id) 0 % 4 ≡ 1 → Says (get_or h (tag_place cap id) 0 / 4) (pos 1) r ≡ read_of (reading m.events id)
-    Says-plus k = go (read_Tells e).sgn
-      where
-        go : SignIn (get_or h (tag_place cap id) 0) (event_at m.events id).body
-            → Says (get_or h (tag_place cap id) 0 / 4) (pos 1) r ≡ read_of (reading m.events id)
-        go (inl u) = says (pos 1) u.1
-        go (inr u) = absurd (omega (arith, u.0))
-
-    pub Says-minus : get_or h (tag_place cap id) 0 % 4 ≡ 3 → Says (get_or h (tag_place cap id) 0 / 4) (negsuc 0) r ≡ read_of (reading m.events id)
-    Says-minus k = go (read_Tells e).sgn
-      where
-        go : SignIn (get_or h (tag_place cap id) 0) (event_at m.events id).body
-            → Says (get_or h (tag_place cap id) 0 / 4) (negsuc 0) r ≡ read_of (reading m.events id)
-        go (inl u) = absurd (omega (arith, u.0))
-        go (inr u) = says (negsuc 0) u.1
+        cc (t, u, v, s)
 
   -- one of both
   pub says_some : not_readable m.events id ≡ false → (get_or h (tag_place cap id) 0 % 4 ≡ 1 → ⊥) → (get_or h (tag_place cap id) 0 % 4 ≡ 3 → ⊥) → ⊥

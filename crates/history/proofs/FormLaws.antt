@@ -14,8 +14,8 @@ use lib.Bits.{bit_or, or_lt, or_add_and, and_le_l, and_le_r}
 use lib.Pow.{pow_pos, pow_mono}
 use lib.Dec.{eqb, ltb}
 use borrow.Author.Tests.{eq-eqb, ne_eqb, eqb-true, eqb-false}
+use Rattle.std.proofs.Common.{Result, IsOk}
 use Rattle.model.specs.Events as model
-use Rattle.std.specs.Prelude.{Result, IsOk}
 use Rattle.pauli.specs.declared.corrupt.Corrupt.{Corrupt}
 use Rattle.model.specs.Pauli.{has}
 use Rattle.model.specs.Events.{Event, State, words, plane, keep, touches, event_at, live_at, record1, kill, killed, dead, factor, tidy}

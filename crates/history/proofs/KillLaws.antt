@@ -7,9 +7,6 @@ use mathlib.Core.List.{List}
 use Prim.Native.Nat.{ℕ, ◌+◌, ◌/◌, ◌^◌, ◌≤◌, ◌<◌}
 use native.Mathlib.Omega.{arith}
 use lib.ListN.{length, get_or, set, length-set, length-map}
-use lib.IntN.{ℤ}
-use Rattle.std.specs.Prelude.{Result, IsOk}
-use Rattle.pauli.specs.declared.corrupt.Corrupt.{Corrupt}
 use Rattle.model.specs.Events as model
 use Rattle.model.specs.Events.{Body, rotation, blocker, Event, State, words, event_at, live_at, is_rotation, killed, kill, tidy}
 use Rattle.model.specs.Calls.{reading, not_readable, not_killable}
@@ -17,15 +14,15 @@ use Rattle.model.proofs.Members.{clash}
 use Rattle.model.proofs.Lists.{gone, gone_other, gone_x, gone_z}
 use Rattle.pauli.specs.Rows.{signature}
 use Rattle.lists.specs.Lists.{Among}
-use Rattle.history.specs.declared.events.Told.{Told}
-use Rattle.history.specs.declared.events.Told.TheVariants.{Says, Nothing, Bad}
+use Rattle.std.proofs.Common.{Result, Ok, Err, Option, Some, None, IsOk, is_ok}
+use Rattle.pauli.specs.declared.corrupt.Corrupt.{Corrupt}
+use Rattle.history.specs.declared.events.Rotation.{Rotation}
 use Rattle.history.specs.Newest.{link_place}
 use Rattle.history.specs.Words.{sig_place, alive_place, count_place, Given, Holds, Sane, OfBody, Uses, Becomes}
 use Rattle.history.specs.Recordings.{EventsHeld}
 use Rattle.history.specs.Sizes.{ListsHeld, ListsTo, Leaving}
-use Rattle.history.specs.Readings.{read_of, nothing}
-use Rattle.history.specs.declared.kill.Killed.TheVariants as Killed
-use Rattle.history.specs.Kills.{Dying, LeftBy, Gone, done, refused}
+use Rattle.history.specs.Readings.{rotation_of}
+use Rattle.history.specs.Kills.{Dying, LeftBy, Gone}
 use Rattle.history.proofs.EventLaws.{readable}
 use Rattle.history.proofs.StoreLaws.{alive_inside}
 use Rattle.history.proofs.StayLaws.{lists_stay, events_stay, lists_behind, events_held}
@@ -169,8 +166,8 @@ module _ (f : model.Form) (n cap l id : ℕ) (m : State) (h g : List ℕ) (holds
     }
 
 -- the death, then the lists
-pub kill-Done : (f : model.Form) (n cap l id : ℕ) (h g e : List ℕ) (s : Bool) (r : Result (Unit {0}) Corrupt)
-    → ((es : List Event) → EventsHeld cap l es h → length es ≤ cap → Dying es id → (s ≡ true) × Gone cap l es id h g)
+pub kill-Done : (f : model.Form) (n cap l id : ℕ) (h g e : List ℕ) (s r : Result (Unit {0}) Corrupt)
+    → ((es : List Event) → EventsHeld cap l es h → length es ≤ cap → Dying es id → IsOk s × Gone cap l es id h g)
     → ((m : State) → ListsHeld f n cap l m g → length m.events ≡ get_or h 0 0 → Leaving n cap l m id (get_or h (sig_place cap + id) 0) g → IsOk r × ListsTo f n cap l (kill id m) g e)
     → (m : State) → Holds f n cap l m h → Sane m → Dying m.events id → IsOk r × Becomes f n cap l (kill id m) h e
 kill-Done f n cap l id h g e s r drop lists m holds sane d =
@@ -178,11 +175,8 @@ kill-Done f n cap l id h g e s r drop lists m holds sane d =
     let t = lists m (dying_lists f n cap l id m h g holds sane d w) (sym holds.count) (dying_leaves f n cap l id m h g holds sane d w) in
     (t.0, dead_Becomes f n cap l id m h g holds sane d w e t.1)
 
--- the death is done
-pub kill_dropped : (f : model.Form) (n cap l id : ℕ) (h g : List ℕ) (s : Bool)
-    → ((es : List Event) → EventsHeld cap l es h → length es ≤ cap → Dying es id → (s ≡ true) × Gone cap l es id h g)
-    → (m : State) → Holds f n cap l m h → Dying m.events id → s ≡ true
-kill_dropped f n cap l id h g s drop m holds d = (drop m.events (events_held f n cap l m h holds) holds.room d).0
+pub no_err : {r : Result (Unit {0}) Corrupt} {x : Corrupt} → IsOk r → r ≡ Err x → ⊥
+no_err {r} {x} ok e = let z = ok in cc (ap is_ok e)
 
 -- ---- whether an event can be killed
 
@@ -213,55 +207,24 @@ kill_Dying es id e =
 pub kill_past : (es : List Event) (cap id : ℕ) → length es ≤ cap → cap ≤ id → not_killable es id ≡ false → ⊥
 kill_past es cap id few past e = omega (arith, (kill_Dying es id e).there)
 
-pub nothing_Says : (tag : ℕ) (sgn : ℤ) (live : Bool) → Nothing ≡ Says tag sgn live → ⊥
-nothing_Says tag sgn live e = let z : ◌≡◌ {A = ℕ} 0 1 = cc in omega arith
-
-pub nothing_bad : Nothing ≡ Bad → ⊥
-nothing_bad e = let z : ◌≡◌ {A = ℕ} 0 1 = cc in omega arith
-
-pub bad_Says : (tag : ℕ) (sgn : ℤ) (live : Bool) → Bad ≡ Says tag sgn live → ⊥
-bad_Says tag sgn live e = let z : ◌≡◌ {A = ℕ} 0 1 = cc in omega arith
-
-Says-live : (tag : ℕ) (sgn : ℤ) (live : Bool) (es : List Event) (id : ℕ) → Says tag sgn live ≡ read_of (reading es id) → live ≡ live_at es id
-unfolding read_of reading
-Says-live tag sgn live es id e = cc
-
 -- what a read told of event id
-module _ (es : List Event) (id : ℕ) (t : Told) (refused : not_readable es id ≡ true → t ≡ nothing) (says : not_readable es id ≡ false → t ≡ read_of (reading es id)) where
-  pub told_nothing : t ≡ Nothing → not_killable es id ≡ false → ⊥
-  unfolding read_of
-  told_nothing e k = nothing_Says _ _ _ (sym e ∙ says (killable es id k).0)
+module _ (es : List Event) (id : ℕ) (t : Result (Option Rotation) Corrupt) (nothing : not_readable es id ≡ true → t ≡ Ok None)
+    (says : not_readable es id ≡ false → t ≡ Ok (Some (rotation_of (reading es id)))) where
+  pub told_none : t ≡ Ok None → not_killable es id ≡ false → ⊥
+  told_none e k = let s = says (killable es id k).0 in cc
 
-  pub told_bad : t ≡ Bad → ⊥
-  unfolding read_of
-  told_bad e = go (not_readable es id) refl
+  pub told_err : (x : Corrupt) → t ≡ Err x → ⊥
+  told_err x e = go (not_readable es id) refl
     where
       go : (b : Bool) → not_readable es id ≡ b → ⊥
-      go true q = nothing_bad (sym (refused q) ∙ e)
-      go false q = bad_Says _ _ _ (sym e ∙ says q)
+      go true q = let s = nothing q in cc
+      go false q = let s = says q in cc
 
-  pub told_live : (tag : ℕ) (sgn : ℤ) (live : Bool) → t ≡ Says tag sgn live → not_killable es id ≡ false → live ≡ true
-  told_live tag sgn live e k = let b = killable es id k in Says-live tag sgn live es id (sym e ∙ says b.0) ∙ b.1
-
-  pub told_dead : (tag : ℕ) (sgn : ℤ) (live : Bool) → t ≡ Says tag sgn live → not_killable es id ≡ true → live ≡ false
-  told_dead tag sgn live e k = go (not_readable es id) refl
+  -- the rotation told can be killed exactly if it is live
+  pub told_some : (r : Rotation) → t ≡ Ok (Some r) → not_killable es id ≡ not r.live
+  unfolding not_killable rotation_of reading
+  told_some r e = go (not_readable es id) refl
     where
-      go : (b : Bool) → not_readable es id ≡ b → live ≡ false
-      go true q = absurd (nothing_Says tag sgn live (sym (refused q) ∙ e))
-      go false q = Says-live tag sgn live es id (sym e ∙ says q) ∙ unkillable es id k q
-
-pub not_both : (b : Bool) → b ≡ true → not b ≡ true → ⊥
-not_both b e q = clash (not b) q (ap not e)
-
-pub not_neither : (b : Bool) → b ≡ false → not b ≡ false → ⊥
-not_neither b e q = clash (not b) (ap not e) q
-
--- the three answers differ: what is done or bad is not refused, and what is bad is not done
-pub done_kept : done ≡ refused → ⊥
-done_kept e = let z : ◌≡◌ {A = ℕ} 0 1 = cc in omega arith
-
-pub bad_kept : Killed.Bad ≡ refused → ⊥
-bad_kept e = let z : ◌≡◌ {A = ℕ} 0 1 = cc in omega arith
-
-pub bad_done : Killed.Bad ≡ done → ⊥
-bad_done e = let z : ◌≡◌ {A = ℕ} 0 1 = cc in omega arith
+      go : (b : Bool) → not_readable es id ≡ b → (not_readable es id || not (live_at es id)) ≡ not r.live
+      go true q = let s = nothing q in cc
+      go false q = let s = says q in let l : live_at es id ≡ r.live = cc in rw q (ap not l)

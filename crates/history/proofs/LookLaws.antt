@@ -3,11 +3,11 @@ use mathlib.Core.Path.{◌≡◌, refl, sym, ap, ◌∙◌, subst}
 use mathlib.Core.Logic.{inl, inr}
 use mathlib.Core.Bool.{Bool, true, false, cond}
 use mathlib.Core.List.{List, [], ◌∷◌, map}
-use Prim.Native.Nat.{ℕ, ◌-◌, ◌%◌, ◌≤◌, ◌<◌}
+use Prim.Native.Nat.{ℕ, ◌-◌, ◌<◌}
 use native.Mathlib.Omega.{arith}
 use lib.ListN.{length, get_or}
 use lib.Dec.{ltb}
-use lib.IntN.{ℤ, pos, negsuc, ◌*ℤ◌}
+use lib.IntN.{ℤ, ◌*ℤ◌}
 use Rattle.model.specs.Sketch.{Label}
 use Rattle.model.specs.Events.{Body, rotation, blocker, Form, State, keep, event_at, live_at, is_rotation}
 use Rattle.model.specs.Search as search
@@ -18,15 +18,15 @@ use Rattle.model.proofs.Good.{live_there}
 use Rattle.pauli.proofs.Signs.{bits8, bits8_sign}
 use Rattle.lists.specs.Scans.{steps, scan_of}
 use Rattle.lists.specs.declared.budget.Budget.{Budget}
-use Rattle.std.specs.Prelude.{Result, Ok}
-use Rattle.pauli.specs.declared.corrupt.Corrupt.{Corrupt}
-use Rattle.lists.proofs.ScanLaws.{same_answer}
 use Rattle.lists.specs.declared.budget.Scan.{Scan}
 use Rattle.lists.specs.declared.budget.Scan.TheVariants as scans
-use Rattle.history.specs.declared.search.Cand.{Cand}
-use Rattle.history.specs.declared.search.Cand.TheVariants as cands
-use Rattle.history.specs.declared.looks.Seen.{Seen}
-use Rattle.history.specs.declared.looks.Seen.TheVariants.{Found, Free, Blocked, Exhausted}
+use Rattle.std.proofs.Common.{Result, Ok, Err}
+use Rattle.pauli.specs.declared.corrupt.Corrupt.{Corrupt}
+use Rattle.history.specs.declared.findings.Candidate.{Candidate}
+use Rattle.history.specs.declared.findings.Candidate.TheVariants as cands
+use Rattle.history.specs.declared.findings.Found.{Found}
+use Rattle.history.specs.declared.findings.Found.TheVariants as found
+use Rattle.history.specs.declared.findings.Look.{Look}
 use Rattle.history.specs.Words.{tag_place, Holds, Sane}
 use Rattle.history.specs.Sizes.{ListsHeld, Scanned}
 use Rattle.history.specs.Phases.{candidate_of, look_of, Partner}
@@ -37,27 +37,8 @@ use Rattle.history.proofs.EventLaws.{SignIn, rotation_Tells}
 pub sign_bits : (g : ℤ) → IsSign g → IsSign (bits8 g)
 sign_bits g s = subst IsSign (sym (bits8_sign g s)) s
 
-module _ (h : List ℕ) (cap id : ℕ) (g : ℤ) (n : ℕ) where
-  pub Partner-past : (r : Seen) → cap ≤ id → Partner h cap id g n r
-  Partner-past r l = record { plus = λ i e. absurd (omega arith); minus = λ i e. absurd (omega arith) }
-
-  pub Partner-none : (r : Seen) → (get_or h (tag_place cap id) 0 % 4 ≡ 1 → ⊥) → (get_or h (tag_place cap id) 0 % 4 ≡ 3 → ⊥) → Partner h cap id g n r
-  Partner-none r p q = record { plus = λ i e. absurd (p e); minus = λ i e. absurd (q e) }
-
-  pub Partner-plus : (both : ℤ) → IsSign g → IsSign both → both ≡ pos 1 *ℤ bits8 g → get_or h (tag_place cap id) 0 % 4 ≡ 1 → Partner h cap id g n (Found id (bits8 both) n)
-  Partner-plus both s t e k = record {
-    plus = λ i u. ap (λ (a : ℤ). Found id a n) (bits8_sign both t ∙ e ∙ ap (λ (a : ℤ). pos 1 *ℤ a) (bits8_sign g s));
-    minus = λ i u. absurd (omega arith);
-  }
-
-  pub Partner-minus : (both : ℤ) → IsSign g → IsSign both → both ≡ negsuc 0 *ℤ bits8 g → get_or h (tag_place cap id) 0 % 4 ≡ 3 → Partner h cap id g n (Found id (bits8 both) n)
-  Partner-minus both s t e k = record {
-    plus = λ i u. absurd (omega arith);
-    minus = λ i u. ap (λ (a : ℤ). Found id a n) (bits8_sign both t ∙ e ∙ ap (λ (a : ℤ). negsuc 0 *ℤ a) (bits8_sign g s));
-  }
-
-  pub Partner-bits : (r : Seen) → IsSign g → Partner h cap id (bits8 g) n r → Partner h cap id g n r
-  Partner-bits r s p = subst (λ (a : ℤ). Partner h cap id a n r) (bits8_sign g s) p
+pub Partner-bits : (h : List ℕ) (cap id : ℕ) (g : ℤ) (r : Result Found Corrupt) → IsSign g → Partner h cap id (bits8 g) r → Partner h cap id g r
+Partner-bits h cap id g r s p = subst (λ (a : ℤ). Partner h cap id a r) (bits8_sign g s) p
 
 -- ---- what phase 1 stopped at
 
@@ -91,23 +72,16 @@ stopped_there m a x z k id left e =
 
 -- ---- how a walk ended, by the answers
 
-abbrev walk_of : Cand → Walk
+abbrev walk_of : Candidate → Walk
 walk_of (cands.Nothing left) = done left.0
 walk_of (cands.Match id left) = stopped id left.0
 walk_of (cands.Out left) = dry left.0
-walk_of cands.Bad = dry 0
 
 walk_of_lem : (w : Walk) → w ≡ walk_of (candidate_of w)
 unfolding candidate_of steps
 walk_of_lem (done k) = refl
 walk_of_lem (stopped id k) = refl
 walk_of_lem (dry k) = refl
-
-pub walk_bad : (r : Cand) (w : Walk) → r ≡ cands.Bad → r ≡ candidate_of w → ⊥
-unfolding candidate_of
-walk_bad r (done k) b e = let q : ◌≡◌ {A = ℕ} 0 1 = cc in omega arith
-walk_bad r (stopped i k) b e = let q : ◌≡◌ {A = ℕ} 0 1 = cc in omega arith
-walk_bad r (dry k) b e = let q : ◌≡◌ {A = ℕ} 0 1 = cc in omega arith
 
 -- what the second phase's answer makes of a look
 abbrev looking : State → (g : ℤ) → (id : ℕ) → Scan → search.Look
@@ -129,59 +103,73 @@ held_lists f n cap l m h holds sane = record { given = holds.given; many = holds
 pub held_scan : (f : Form) (n cap l : ℕ) (m : State) (h : List ℕ) → Holds f n cap l m h → Scanned cap l m (get_or h 0 0) h
 held_scan f n cap l m h holds = record { count = sym holds.count; room = holds.room; signed = holds.signed; axed = holds.axed }
 
+-- what a look says that found w and has `left` of the allowance
+abbrev says : (allowance : ℕ) → Found → Budget → Look
+says allowance w left = record { found = w; steps = allowance - left.0 }
+
+-- how the two phases ended, of which o is what the code keeps
+pub ended : (allowance : ℕ) (o p : Found × Budget) (s : ℕ) (q : Look) → s ≡ allowance - o.1.0 → o ≡ p → says allowance p.0 p.1 ≡ q
+    → ◌≡◌ {A = Result Look Corrupt} (Ok (record { found = o.0; steps = s })) (Ok q)
+ended allowance o p s q e is t = ap (λ (n : ℕ). Ok (record { found = o.0; steps = n })) e ∙ ap (λ (v : Found × Budget). Ok (says allowance v.0 v.1)) is ∙ ap Ok t
+
 -- r is the answer of phase 1
-module _ (m : State) (g : ℤ) (a : Label) (x z allowance : ℕ) (given : m.given.allowance ≡ allowance) (r : Cand)
-    (one : r ≡ candidate_of (walk (phase1 m a x z) allowance)) where
-  spent_is : (s left : ℕ) → s ≡ allowance - left → search.spent m left ≡ s
+module _ (m : State) (g : ℤ) (a : Label) (x z allowance : ℕ) (given : m.given.allowance ≡ allowance) (r : Candidate)
+    (one : ◌≡◌ {A = Result Candidate Corrupt} (Ok r) (Ok (candidate_of (walk (phase1 m a x z) allowance)))) where
+  spent_is : (left : ℕ) → search.spent m left ≡ allowance - left
   unfolding search.spent
-  spent_is s left e = ap (λ (k : ℕ). k - left) given ∙ sym e
+  spent_is left = ap (λ (k : ℕ). k - left) given
 
-  by_one : (c : Cand) → r ≡ c → look_for m g a x z ≡ looked1 m g x z (walk_of c)
+  by_one : (c : Candidate) → r ≡ c → look_for m g a x z ≡ looked1 m g x z (walk_of c)
   unfolding look_for
-  by_one c e = ap (looked1 m g x z) (ap (walk (phase1 m a x z)) given ∙ walk_of_lem (walk (phase1 m a x z) allowance) ∙ ap walk_of (sym one ∙ e))
+  by_one c e =
+      let o : r ≡ candidate_of (walk (phase1 m a x z) allowance) = cc in
+      ap (looked1 m g x z) (ap (walk (phase1 m a x z)) given ∙ walk_of_lem (walk (phase1 m a x z) allowance) ∙ ap walk_of (sym o ∙ e))
 
-  pub look_Free : (left : Budget) (s : ℕ) → r ≡ cands.Nothing left → s ≡ allowance - left.0 → Free s ≡ look_of (look_for m g a x z)
+  pub look_free : (left : Budget) → r ≡ cands.Nothing left → says allowance found.Nothing left ≡ look_of (look_for m g a x z)
   unfolding look_of looked1
-  look_Free left s e q = sym (ap look_of (by_one (cands.Nothing left) e) ∙ ap Free (spent_is s left.0 q))
+  look_free left e = sym (ap look_of (by_one (cands.Nothing left) e) ∙ ap (λ (n : ℕ). record { found = found.Nothing; steps = n }) (spent_is left.0))
 
-  pub look_out : (left : Budget) (s : ℕ) → r ≡ cands.Out left → s ≡ allowance - left.0 → Exhausted s ≡ look_of (look_for m g a x z)
+  pub look_out : (left : Budget) → r ≡ cands.Out left → says allowance found.OutOfSteps left ≡ look_of (look_for m g a x z)
   unfolding look_of looked1
-  look_out left s e q = sym (ap look_of (by_one (cands.Out left) e) ∙ ap Exhausted (spent_is s left.0 q))
+  look_out left e = sym (ap look_of (by_one (cands.Out left) e) ∙ ap (λ (n : ℕ). record { found = found.OutOfSteps; steps = n }) (spent_is left.0))
 
   -- t is the answer of phase 2, at the event that phase 1 found
-  module _ (id : ℕ) (left : Budget) (e : r ≡ cands.Match id left) (u : Result Scan Corrupt) (two : u ≡ Ok (scan_of (walk (phase2 m id x z) left.0))) (t : Scan) (scanned : u ≡ Ok t) where
-    two_is : t ≡ scan_of (walk (phase2 m id x z) left.0)
-    two_is = same_answer u t (scan_of (walk (phase2 m id x z) left.0)) scanned two
-
+  module _ (id : ℕ) (left : Budget) (e : r ≡ cands.Match id left) (t : Scan)
+      (two : ◌≡◌ {A = Result Scan Corrupt} (Ok t) (Ok (scan_of (walk (phase2 m id x z) left.0)))) where
     by_two : (c : Scan) → t ≡ c → look_for m g a x z ≡ looking m g id c
     unfolding looked1
-    by_two c q = by_one (cands.Match id left) e ∙ looked_by m g id (walk (phase2 m id x z) left.0) ∙ ap (looking m g id) (sym two_is ∙ q)
+    by_two c q =
+        let o : t ≡ scan_of (walk (phase2 m id x z) left.0) = cc in
+        by_one (cands.Match id left) e ∙ looked_by m g id (walk (phase2 m id x z) left.0) ∙ ap (looking m g id) (sym o ∙ q)
 
-    pub look_blocked : (rest : Budget) (s : ℕ) → t ≡ scans.Blocked rest → s ≡ allowance - rest.0 → Blocked s ≡ look_of (look_for m g a x z)
+    pub look_blocked : (rest : Budget) → t ≡ scans.Blocked rest → says allowance found.Blocked rest ≡ look_of (look_for m g a x z)
     unfolding look_of
-    look_blocked rest s k q = sym (ap look_of (by_two (scans.Blocked rest) k) ∙ ap Blocked (spent_is s rest.0 q))
+    look_blocked rest k = sym (ap look_of (by_two (scans.Blocked rest) k) ∙ ap (λ (n : ℕ). record { found = found.Blocked; steps = n }) (spent_is rest.0))
 
-    pub look_dry : (rest : Budget) (s : ℕ) → t ≡ scans.Out rest → s ≡ allowance - rest.0 → Exhausted s ≡ look_of (look_for m g a x z)
+    pub look_dry : (rest : Budget) → t ≡ scans.Out rest → says allowance found.OutOfSteps rest ≡ look_of (look_for m g a x z)
     unfolding look_of
-    look_dry rest s k q = sym (ap look_of (by_two (scans.Out rest) k) ∙ ap Exhausted (spent_is s rest.0 q))
+    look_dry rest k = sym (ap look_of (by_two (scans.Out rest) k) ∙ ap (λ (n : ℕ). record { found = found.OutOfSteps; steps = n }) (spent_is rest.0))
 
-    module _ (f : Form) (n cap l : ℕ) (h : List ℕ) (holds : Holds f n cap l m h) (sane : Sane m) where
+    module _ (f : Form) (n cap l : ℕ) (h : List ℕ) (holds : Holds f n cap l m h) (sane : Sane m) (o : Result Found Corrupt) (p : Partner h cap id g o) where
       there : (id < length m.events) × (is_rotation (event_at m.events id).body ≡ true)
-      there = stopped_there m a x z allowance id left.0 (walk_of_lem (walk (phase1 m a x z) allowance) ∙ ap walk_of (sym one ∙ e))
+      there = stopped_there m a x z allowance id left.0 (let o : r ≡ candidate_of (walk (phase1 m a x z) allowance) = cc in walk_of_lem (walk (phase1 m a x z) allowance) ∙ ap walk_of (sym o ∙ e))
 
-      Found-sign : (s : ℕ) (o : Seen) → Partner h cap id g s o → o ≡ Found id (sign_at (event_at m.events id).body *ℤ g) s
-      Found-sign s o p = go (rotation_Tells _ (event_at m.events id).body (holds.bodies.tag id there.0) (sane.signs id there.0) there.1).sgn
+      pub partner_is : o ≡ Ok (found.Partner id (sign_at (event_at m.events id).body *ℤ g))
+      partner_is = go (rotation_Tells _ (event_at m.events id).body (holds.bodies.tag id there.0) (sane.signs id there.0) there.1).sgn
         where
           within : id < cap
           within = omega (arith, there.0, holds.room)
 
-          go : SignIn (get_or h (tag_place cap id) 0) (event_at m.events id).body → o ≡ Found id (sign_at (event_at m.events id).body *ℤ g) s
-          go (inl u) = p.plus within u.0 ∙ ap (λ (k : ℤ). Found id (k *ℤ g) s) (sym u.1)
-          go (inr u) = p.minus within u.0 ∙ ap (λ (k : ℤ). Found id (k *ℤ g) s) (sym u.1)
+          go : SignIn (get_or h (tag_place cap id) 0) (event_at m.events id).body → o ≡ Ok (found.Partner id (sign_at (event_at m.events id).body *ℤ g))
+          go (inl u) = p.plus within u.0 ∙ ap (λ (k : ℤ). Ok (found.Partner id (k *ℤ g))) (sym u.1)
+          go (inr u) = p.minus within u.0 ∙ ap (λ (k : ℤ). Ok (found.Partner id (k *ℤ g))) (sym u.1)
 
-      pub look_found : (rest : Budget) (s : ℕ) (o : Seen) → t ≡ scans.Clear rest → s ≡ allowance - rest.0 → Partner h cap id g s o
-          → o ≡ look_of (look_for m g a x z)
+      pub partner_there : (x : Corrupt) → o ≡ Err x → ⊥
+      partner_there x q = let s = partner_is in cc
+
+      pub look_found : (rest : Budget) (w : Found) → t ≡ scans.Clear rest → o ≡ Ok w → says allowance w rest ≡ look_of (look_for m g a x z)
       unfolding look_of
-      look_found rest s o k q p =
-          Found-sign s o p
-          ∙ sym (ap look_of (by_two (scans.Clear rest) k) ∙ ap (λ (u : ℕ). Found id (sign_at (event_at m.events id).body *ℤ g) u) (spent_is s rest.0 q))
+      look_found rest w k q =
+          let is : w ≡ found.Partner id (sign_at (event_at m.events id).body *ℤ g) = let s = partner_is in cc in
+          ap (λ (v : Found). says allowance v rest) is
+          ∙ sym (ap look_of (by_two (scans.Clear rest) k) ∙ ap (λ (n : ℕ). record { found = found.Partner id (sign_at (event_at m.events id).body *ℤ g); steps = n }) (spent_is rest.0))

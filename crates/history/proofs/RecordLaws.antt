@@ -1,8 +1,6 @@
 -- Laws of a record: after all its writes the words hold the state with the event. Assumes nothing.
 use mathlib.Core.Path.{◌≡◌, sym, ap, ◌∙◌, subst}
 use mathlib.Core.Logic.{inl, inr, ⊎_elim}
-use Rattle.std.specs.Prelude.{Result, IsOk}
-use Rattle.pauli.specs.declared.corrupt.Corrupt.{Corrupt}
 use mathlib.Core.List.{List, [], ◌∷◌, ◌++◌}
 use Prim.Native.Nat.{ℕ, ◌+◌, ◌*◌, ◌/◌, ◌≤◌, ◌<◌}
 use native.Mathlib.Omega.{arith}
@@ -13,11 +11,13 @@ use Rattle.model.specs.Events.{Event, State, words, plane, record1}
 use Rattle.model.proofs.Lists.{at_new, length_new, push-length}
 use Rattle.pauli.specs.Rows.{of_row, signature}
 use Rattle.lists.specs.Lists.{Among}
+use Rattle.std.proofs.Common.{Result, IsOk}
+use Rattle.pauli.specs.declared.corrupt.Corrupt.{Corrupt}
 use Rattle.history.specs.declared.events.Body.{Body}
 use Rattle.history.specs.Newest.{link_place}
 use Rattle.history.specs.Words.{label_place, tag_place, sig_place, axis_place, alive_place, count_place, history_room, OfEvent, Uses, Holds, Sane, Becomes}
 use Rattle.history.specs.Sizes.{ListsHeld, ListsTo, Newcomer}
-use Rattle.history.specs.Recordings.{numbered, EventsHeld, Recorded, Fresh, TakenBy, Stored}
+use Rattle.history.specs.Recordings.{EventsHeld, Recorded, Fresh, TakenBy, Stored}
 use Rattle.history.proofs.AxisWords.{axis_inside}
 use Rattle.history.proofs.StoreLaws.{alive_inside, of_body}
 use Rattle.history.proofs.StayLaws.{lists_stay, events_stay, lists_behind, events_held}
@@ -125,8 +125,8 @@ module _ (f : model.Form) (n cap l sig : ℕ) (axis : List ℕ) (body : Body) (h
   pub record_goes : IsOk r
   record_goes = push_then.0
 
-  pub record_ends : (numbered (get_or h 0 0) ≡ numbered (length m.events)) × Becomes f n cap l (record1 e m) h (set g₂ 0 (get_or h 0 0 + 1))
+  pub record_ends : (get_or h 0 0 ≡ length m.events) × Becomes f n cap l (record1 e m) h (set g₂ 0 (get_or h 0 0 + 1))
   record_ends = (
-    ap numbered c.count,
+    c.count,
     recorded f n cap l m e h g₁ g₂ (get_or h 0 0 + 1) c room put_first push_then.1 (ap (λ (k : ℕ). k + 1) c.count),
   )

@@ -20,9 +20,9 @@ use Rattle.lists.specs.Lists.{Rises, Known}
 use Rattle.sliced.specs.Blocks.{entry_of}
 use Rattle.lists.specs.Scans.{scan_of, Touched}
 use Rattle.support.specs.Families.{AllScannable, AllSliced}
-use Rattle.std.specs.Prelude.{Result, Ok}
-use Rattle.pauli.specs.declared.corrupt.Corrupt.{Corrupt}
 use Rattle.lists.specs.declared.budget.Scan.{Scan}
+use Rattle.pauli.specs.declared.corrupt.Corrupt.{Corrupt}
+use Rattle.std.proofs.Common.{Result, Ok}
 use Rattle.history.specs.declared.forms.Form.{Form}
 use Rattle.history.specs.declared.forms.Form.TheVariants.{Scalar, Sliced}
 use Rattle.history.specs.Words.{axis_place, sig_place, count_place, list_place, history_room}

@@ -6,7 +6,7 @@ use lib.Dec.{ltb}
 use borrow.Author.Tests.{ltb-true, ltb-false}
 use Rattle.lists.specs.Scans.{steps, spend_of}
 use Rattle.lists.specs.declared.budget.Budget.{Budget}
-use Rattle.std.specs.Prelude.{Option, Some, None}
+use Rattle.std.proofs.Common.{Option, Some, None}
 
 abbrev Told : Budget → (cost : ℕ) → Option Budget → Type 0
 Told b cost (Some r) = (cost ≤ b.0) × (r.0 ≡ b.0 - cost)

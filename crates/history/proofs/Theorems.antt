@@ -21,8 +21,10 @@ use Rattle.model.proofs.Theorems.{look_exact}
 use Rattle.model.proofs.Good.{Good, reached}
 use Rattle.model.proofs.Kept.{listed}
 use Rattle.sliced.specs.Blocks.{entry, entry_of, sliced_room}
-use Rattle.history.specs.declared.looks.Seen.{Seen}
-use Rattle.history.specs.declared.looks.Seen.TheVariants.{Found}
+use Rattle.std.proofs.Common.{Result, Ok}
+use Rattle.pauli.specs.declared.corrupt.Corrupt.{Corrupt}
+use Rattle.history.specs.declared.findings.Look.{Look}
+use Rattle.history.specs.declared.findings.Found.TheVariants.{Partner}
 use Rattle.history.specs.Words.{count_place, list_place, list_size, history_room, list_in, ListsIn, Holds, Sane}
 use Rattle.history.specs.Phases.{look_of}
 
@@ -85,20 +87,26 @@ lists_in_words f n cap l m h holds b q =
 
 -- ---- demand 3: a look in the words
 
-Found-is : (a : search.Look) (id n : ℕ) (g : ℤ) → look_of a ≡ Found id g n → a ≡ search.found id g n
+-- a look that says the partner id
+abbrev partner : (id : ℕ) (g : ℤ) (steps : ℕ) → Look
+partner id g n = record { found = Partner id g; steps = n }
+
+partner_is : (a : search.Look) (id n : ℕ) (g : ℤ) → look_of a ≡ partner id g n → a ≡ search.found id g n
 unfolding look_of
-Found-is (search.found id sgn n) i k g e = cc
-Found-is (search.none n) i k g e = cc
-Found-is (search.blocked n) i k g e = cc
-Found-is (search.out n) i k g e = cc
+partner_is (search.found id sgn n) i k g e = let f = ap (λ (a : Look). a.found) e in let t = ap (λ (a : Look). a.steps) e in cc
+partner_is (search.none n) i k g e = let f = ap (λ (a : Look). a.found) e in let t = ap (λ (a : Look). a.steps) e in cc
+partner_is (search.blocked n) i k g e = let f = ap (λ (a : Look). a.found) e in let t = ap (λ (a : Look). a.steps) e in cc
+partner_is (search.out n) i k g e = let f = ap (λ (a : Look). a.found) e in let t = ap (λ (a : Look). a.steps) e in cc
 
 -- the answer r of `looks::look` for an axis of the frame names an event exactly when demand 3 says, unless it runs out
 pub look_names : (o : Opening) → open_answer o ≡ 0 → (cs : List Lent) → let s : State = calls cs (opened o) in
-    (kind : Kind) (q : ℕ) (r : Seen) → r ≡ look_of (look kind q s) → NotOut (look kind q s)
-    → (id : ℕ) (g : ℤ) → ((steps : ℕ) × (r ≡ Found id g steps)) ↔ Named s (axis paulis kind q s.frame) id g
+    (kind : Kind) (q : ℕ) (r : Result Look Corrupt) → r ≡ Ok (look_of (look kind q s)) → NotOut (look kind q s)
+    → (id : ℕ) (g : ℤ) → ((steps : ℕ) × (r ≡ Ok (partner id g steps))) ↔ Named s (axis paulis kind q s.frame) id g
 unfolding look_of
 look_names o h cs kind q r e n id g =
     let both = (look_exact o h cs kind q n).names id g in (
-      λ t. both.0 (t.0, Found-is (look kind q (calls cs (opened o))) id t.0 g (sym e ∙ t.1)),
-      λ t. let u = both.1 t in (u.0, e ∙ ap look_of u.1),
+      λ t.
+          let same : look_of (look kind q (calls cs (opened o))) ≡ partner id g t.0 = let z = t.1 in cc in
+          both.0 (t.0, partner_is (look kind q (calls cs (opened o))) id t.0 g same),
+      λ t. let u = both.1 t in (u.0, e ∙ ap (λ (a : search.Look). Ok (look_of a)) u.1),
     )

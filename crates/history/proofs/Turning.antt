@@ -4,7 +4,6 @@ use mathlib.Core.Bool.{Bool, true, false}
 use mathlib.Core.List.{List}
 use Prim.Native.Nat.{ℕ, suc, ◌+◌, ◌-◌, ◌*◌, ◌≤◌, ◌<◌}
 use native.Mathlib.Omega.{arith}
-use native.Mathlib.Decide.{dec_lt}
 use lib.ListN.{length, get_or, take, drop}
 use Rattle.model.specs.Sketch.{Label}
 use Rattle.model.specs.Events.{Form, Body, rotation, State, event_at}
@@ -13,13 +12,15 @@ use Rattle.model.proofs.Good.{live_there}
 use Rattle.pauli.specs.Rows.{of_row, Decides}
 use Rattle.lists.specs.Scans.{steps}
 use Rattle.lists.specs.declared.budget.Budget.{Budget}
-use Rattle.history.specs.declared.search.Cand.{Cand}
-use Rattle.history.specs.declared.search.Cand.TheVariants.{Match, Nothing, Out}
+use Rattle.std.proofs.Common.{Result, IsOkAnd}
+use Rattle.pauli.specs.declared.corrupt.Corrupt.{Corrupt}
+use Rattle.history.specs.declared.findings.Candidate.{Candidate}
+use Rattle.history.specs.declared.findings.Candidate.TheVariants.{Match, Nothing, Out}
 use Rattle.history.specs.declared.search.Visit.{Visit}
 use Rattle.history.specs.declared.search.Visit.TheVariants.{On, Stop}
 use Rattle.history.specs.Newest.{bucket_of, link_place, newest}
 use Rattle.history.specs.Words.{label_place, axis_place, LabelAt, in_bucket, Holds}
-use Rattle.history.specs.Phases.{candidate_of, label_of, older, Onward, Met, Turn, Falls}
+use Rattle.history.specs.Phases.{candidate_of, label_of, older, Onward, Met, Turn}
 use Rattle.history.proofs.ChainLaws.{newest-le, newest_hit}
 use Rattle.history.proofs.AxisWords.{part_long, axis-Decides}
 use Rattle.history.proofs.PhaseOne.{Rotates, rotates, label_same, high_differs, low_differs, older_all, older_none, older-cleared, older_other, older_skip, this_dry, this_stops, this_past}
@@ -69,11 +70,11 @@ module _ (f : Form) (n : ℕ) (m : State) (cap l events cleared high low x z cur
 
   module _ (left : Budget) where
     -- it goes on with the next of the bucket
-    pub Turn-Onward : (rest : Budget) (r : Visit) → walk (older m a x z (suc i)) left.0 ≡ walk (older m a x z i) rest.0 → Onward h cap cur rest r
-        → Turn m cap high low x z cur left r
+    pub Turn-Onward : (rest : Budget) (r : Result Visit Corrupt) → walk (older m a x z (suc i)) left.0 ≡ walk (older m a x z i) rest.0 → Onward h cap cur rest r
+        → IsOkAnd r (Turn m cap high low x z cur left)
     Turn-Onward rest r e on =
         let falls : get_or h (link_place cap i) 0 < cur = omega (arith, met_link, newest-le p i) in
-        subst (λ (v : Visit). Turn m cap high low x z cur left v) (sym (on.falls falls))
+        subst (λ (v : Result Visit Corrupt). IsOkAnd v (Turn m cap high low x z cur left)) (sym (on.falls falls))
         (met_link, here left.0 ∙ e ∙ ap (λ (ws : List Work). walk ws rest.0) (older_skip m cap high low x z i) ∙ ap (λ (k : ℕ). walk (older m a x z k) rest.0) (sym met_link))
 
     pub Turn-cleared : i < cleared → Turn m cap high low x z cur left (Stop (Nothing left))
@@ -81,12 +82,12 @@ module _ (f : Form) (n : ℕ) (m : State) (cap l events cleared high low x z cur
     Turn-cleared b = sym (ap candidate_of (here left.0) ∙ ap (λ (ws : List Work). candidate_of (walk ws left.0)) (older-cleared m a x z i (omega (arith, b, met.past))))
 
     -- an event of another label costs nothing
-    pub high-Onward : (r : Visit) → (get_or h (label_place cap i) 0 ≡ high → ⊥) → Onward h cap cur left r → Turn m cap high low x z cur left r
+    pub high-Onward : (r : Result Visit Corrupt) → (get_or h (label_place cap i) 0 ≡ high → ⊥) → Onward h cap cur left r → IsOkAnd r (Turn m cap high low x z cur left)
     high-Onward r d on =
         Turn-Onward left r
         (ap (λ (ws : List Work). walk ws left.0) (older_other m a x z i (high_differs high low m.events i rot.tag rot.sgn rot.label rot.is rot.live (λ e. d (label_words_lem.0 ∙ e))))) on
 
-    pub low-Onward : (r : Visit) → get_or h (label_place cap i) 0 ≡ high → (get_or h (label_place cap i + 1) 0 ≡ low → ⊥) → Onward h cap cur left r → Turn m cap high low x z cur left r
+    pub low-Onward : (r : Result Visit Corrupt) → get_or h (label_place cap i) 0 ≡ high → (get_or h (label_place cap i + 1) 0 ≡ low → ⊥) → Onward h cap cur left r → IsOkAnd r (Turn m cap high low x z cur left)
     low-Onward r e d on =
         Turn-Onward left r
         (ap (λ (ws : List Work). walk ws left.0)
@@ -110,17 +111,9 @@ module _ (f : Form) (n : ℕ) (m : State) (cap l events cleared high low x z cur
         turn_match s =
             ap (λ (n : ℕ). Match i (steps n)) paid ∙ sym (ap candidate_of (here left.0 ∙ this_stops m a x z i left.0 past cand enough s))
 
-        pub Turn-past : (r : Visit) → same_axis x z (event_at m.events i) ≡ false → Onward h cap cur rest r → Turn m cap high low x z cur left r
+        pub Turn-past : (r : Result Visit Corrupt) → same_axis x z (event_at m.events i) ≡ false → Onward h cap cur rest r → IsOkAnd r (Turn m cap high low x z cur left)
         Turn-past r s on =
             Turn-Onward rest r (this_past m a x z i left.0 past cand enough s ∙ ap (λ (n : ℕ). walk (older m a x z i) n) (sym paid)) on
-
--- what the link leads on to is older, whatever the words
-pub Onward-Falls : (h : List ℕ) (cap cur : ℕ) (left : Budget) (r : Visit) → Onward h cap cur left r → Falls cur r
-Onward-Falls h cap cur left r on =
-    elim (dec_lt (get_or h (link_place cap (cur - 1)) 0) cur) [
-      | yes b ↦ subst (λ (v : Visit). Falls cur v) (sym (on.falls b)) b
-      | no b ↦ subst (λ (v : Visit). Falls cur v) (sym (on.bad (omega arith))) tt
-    ]
 
 -- ---- the walk of a bucket
 
@@ -151,7 +144,7 @@ module _ (m : State) (cap high low x z : ℕ) (whole : Walk) where
       subst (λ (k : ℕ). Cursor m cap high low x z whole k rest) (sym t.0)
       (at_newest (cur - 1) rest (c.same ∙ t.1 ∙ ap (λ (k : ℕ). walk (older m (label_of high low) x z k) rest.0) t.0))
 
-  pub Cursor-stops : (cur : ℕ) (left : Budget) (found : Cand) → Cursor m cap high low x z whole cur left → Turn m cap high low x z cur left (Stop found) → found ≡ candidate_of whole
+  pub Cursor-stops : (cur : ℕ) (left : Budget) (found : Candidate) → Cursor m cap high low x z whole cur left → Turn m cap high low x z cur left (Stop found) → found ≡ candidate_of whole
   Cursor-stops cur left found c t = t ∙ ap candidate_of (sym c.same)
 
   pub Cursor-ends : (cur : ℕ) (left : Budget) → cur ≡ 0 → Cursor m cap high low x z whole cur left → Nothing left ≡ candidate_of whole

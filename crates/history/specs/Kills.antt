@@ -2,18 +2,9 @@
 use Rattle.std.specs.Prelude.{◌≡◌, ◌⊎◌, true, List, ℕ, ◌+◌, ◌/◌, ◌<◌, length, set}
 use Rattle.model.specs.Events.{Event, event_at, live_at, is_rotation, killed}
 use Rattle.lists.specs.Lists.{Among, Only}
-use Rattle.history.specs.declared.kill.Killed.{Killed}
-use Rattle.history.specs.declared.kill.Killed.TheVariants.{Done, Refused}
 use Rattle.history.specs.Newest.{link_place}
 use Rattle.history.specs.Words.{sig_place, alive_place}
 use Rattle.history.specs.Recordings.{EventsHeld}
-
--- the answers
-abbrev pub done : Killed
-done = Done
-
-abbrev pub refused : Killed
-refused = Refused
 
 -- event id is a live rotation
 pub record Dying (es : List Event) (id : ℕ) : Type 0 where

@@ -1,8 +1,6 @@
 -- Chains of rotations whose labels fall into one bucket, in the words of a slice (docs/STORE.md): from word 2 on cap heads, one a bucket, then
 -- a link for each of cap events. A head or a link is an event's number plus 1, or 0 for none. Assumes nothing.
 use Rattle.std.specs.Prelude.{◌≡◌, ◌⊎◌, Bool, true, cond, List, ℕ, zero, suc, ◌+◌, ◌*◌, ◌/◌, ◌%◌, ◌^◌, ◌<◌, length, get_or}
-use Rattle.history.specs.declared.chains.Cell.{Cell}
-use Rattle.history.specs.declared.chains.Cell.TheVariants.{At, Lost}
 
 -- the bucket of a label by its low word: a product and a shift in place of a division
 unfoldable pub bucket_of : (cap low : ℕ) → ℕ
@@ -39,15 +37,6 @@ pub record Before (p : ℕ → Bool) (n cap k id c : ℕ) : Type 0 where
   pub upper : ℕ
   pub next : newest p upper ≡ suc id
   pub place : ((c ≡ head_place k) × (upper ≡ n)) ⊎ ((c ≡ link_place cap upper) × (upper < n) × (p upper ≡ true))
-
--- the answer is that cell, which is one of the 3 cap cells
-abbrev pub Sought : (ℕ → Bool) → (n cap k id : ℕ) → Cell → Type 0
-Sought p n cap k id (At c) = Before p n cap k id c
-Sought p n cap k id Lost = ⊥
-
-abbrev pub Inside : (cap : ℕ) → Cell → Type 0
-Inside cap (At c) = c < 2 + 2 * cap
-Inside cap Lost = Unit {0}
 
 -- that cell has, in g, what stood behind the event id, and all other words are as they were
 pub record Unlinked (p : ℕ → Bool) (n cap k id : ℕ) (h g : List ℕ) : Type 0 where

@@ -8,15 +8,9 @@ use Rattle.lists.specs.Scans as scans
 use Rattle.lists.specs.Scans.{Axed}
 use Rattle.history.specs.declared.events.Body.{Body}
 use Rattle.history.specs.declared.events.Body.TheVariants.{Rotation, Blocker}
-use Rattle.history.specs.declared.record.Kept.{Kept}
-use Rattle.history.specs.declared.record.Kept.TheVariants.{As}
 use Rattle.history.specs.Newest.{bucket_of, head_place, link_place}
 use Rattle.history.specs.Words.{label_place, tag_place, sig_place, axis_place, alive_place, Bodies, Alive, Chains, OfEvent}
 use Rattle.history.specs.Readings.{body_of}
-
--- the answer that the event has the number id
-abbrev pub numbered : (id : ℕ) → Kept
-numbered id = As id
 
 -- ---- words
 

@@ -1,7 +1,9 @@
 // Chains of live rotations, newest first, one for each bucket of labels, in place of the Rust's hash map (DESIGN.md, decision 3: a look writes nothing).
 // From word 2 on stand cap heads, then a link for each of cap events (specs/Newest.antt). Links fall, so that every walk ends.
-ghost use Rattle.std.specs.Prelude.{◌≡◌, Bool, true, ℕ, ◌+◌, ◌*◌, ◌≤◌, ◌<◌, ◌^◌, length};
-ghost use Rattle.history.specs.Newest.{bucket_of, Chained, Linked, Sought, Inside, Unlinked};
+ghost use Rattle.std.specs.Prelude.{◌≡◌, Bool, true, ℕ, ◌+◌, ◌*◌, ◌≤◌, ◌<◌, ◌^◌, length, IfSome, IsSomeAnd, IsOk};
+ghost use Rattle.history.specs.Newest.{bucket_of, Chained, Linked, Before, Unlinked};
+
+use pauli::corrupt::Corrupt;
 
 // The bucket of a label, by its low word.
 pub fn bucket(low: u64, cap: usize) -> usize
@@ -22,48 +24,34 @@ pub fn link(h: &mut [u64], cap: usize, k: usize, id: usize)
     h[2 + k] = (id + 1) as u64;
 }
 
-// A cell of a chain; or that the chain does not have the event, or does not fall.
-#[derive(Clone, Copy)]
-pub enum Cell {
-    At(usize),
-    Lost,
-}
-
-// The cell of bucket k's chain that names the event `id`: the head, or the link of a newer event.
-fn seek(h: &[u64], cap: usize, k: usize, id: usize) -> Cell
+// The cell of bucket k's chain that names the event `id`: the head, or the link of a newer event. None where the chain does not have the event, or
+// does not fall.
+fn seek(h: &[u64], cap: usize, k: usize, id: usize) -> Option<usize>
     requires { (2 + 2 * cap ≤ length h.now) × (k < cap) × (id < cap) }
-    ensures inside { Inside cap result }
-    ensures found { (p : ℕ → Bool) (n : ℕ) → n ≤ cap → Chained p n cap k h.now → id < n → p id ≡ true → Sought p n cap k id result }
+    ensures inside { IfSome result (λ c. c < 2 + 2 * cap) }
+    ensures found { (p : ℕ → Bool) (n : ℕ) → n ≤ cap → Chained p n cap k h.now → id < n → p id ≡ true → IsSomeAnd result (Before p n cap k id) }
 {
     let mut c = 2 + k;
     let mut v = h[c] as usize;
     let mut last = cap + 1;
     while v > id + 1 {
         if last <= v {
-            return Cell::Lost;
+            return None;
         }
         last = v;
         c = 2 + cap + (v - 1);
         v = h[c] as usize;
     }
-    if v == id + 1 {
-        return Cell::At(c);
-    }
-    Cell::Lost
+    if v == id + 1 { Some(c) } else { None }
 }
 
-// The event `id` out of bucket k's chain. The answer is false where the chain does not have it.
-pub fn unlink(h: &mut [u64], cap: usize, k: usize, id: usize) -> bool
+// The event `id` out of bucket k's chain, which has it, or else the words are corrupt.
+pub fn unlink(h: &mut [u64], cap: usize, k: usize, id: usize) -> Result<(), Corrupt>
     requires { (2 + 2 * cap ≤ length h.old) × (k < cap) × (id < cap) }
     ensures long { length h.new ≡ length h.old }
-    ensures done { (p : ℕ → Bool) (n : ℕ) → n ≤ cap → Chained p n cap k h.old → id < n → p id ≡ true → (result ≡ true) × Unlinked p n cap k id h.old h.new }
+    ensures done { (p : ℕ → Bool) (n : ℕ) → n ≤ cap → Chained p n cap k h.old → id < n → p id ≡ true → IsOk result × Unlinked p n cap k id h.old h.new }
 {
-    match seek(h, cap, k, id) {
-        Cell::At(c) => {
-            let older = h[2 + cap + id];
-            h[c] = older;
-            true
-        }
-        Cell::Lost => false,
-    }
+    let c = seek(h, cap, k, id).ok_or(Corrupt)?;
+    h[c] = h[2 + cap + id];
+    Ok(())
 }

@@ -1,15 +1,16 @@
 // The words of one event, but for its lists: what a rotation or a blocker keeps, and what a read says of it.
-ghost use Rattle.std.specs.Prelude.{◌≡◌, true, false, ℕ, ◌+◌, ◌*◌, ◌≤◌, ◌<◌, length};
+ghost use Rattle.std.specs.Prelude.{◌≡◌, true, false, ℕ, ◌+◌, ◌*◌, ◌≤◌, ◌<◌, length, Some, None, Ok};
 ghost use Rattle.model.specs.Events.{Form, State};
 ghost use Rattle.model.specs.Demands.{IsSign};
 ghost use Rattle.model.specs.Calls.{reading, not_readable};
 ghost use Rattle.history.specs.Words.{count_place, code, Holds, Sane};
-ghost use Rattle.history.specs.Readings.{read_of, nothing};
+ghost use Rattle.history.specs.Readings.{rotation_of};
 
+use pauli::corrupt::Corrupt;
 use pauli::sets::contains;
 
 // What a new event keeps beside its axis.
-#[derive(Clone, Copy)]
+#[derive(Clone, Copy, Debug, PartialEq, Eq)]
 pub enum Body {
     Rotation {
         tag: u32,
@@ -26,55 +27,42 @@ pub fn body_word(tag: u32, sign: i8) -> u64
     ensures { result ≡ 4 * tag + code sign }
 {
     let t = 4 * (tag as u64);
-    if sign == 1 {
-        return t + 1;
-    }
-    t + 3
+    if sign == 1 { t + 1 } else { t + 3 }
 }
 
-// What a rotation keeps and whether it is live; or that there is no such rotation; or that a stored value is bad.
-#[derive(Clone, Copy)]
-pub enum Told {
-    Says { tag: u32, sign: i8, live: bool },
-    Nothing,
-    Bad,
+// What a rotation keeps, and whether it is live.
+#[derive(Clone, Copy, Debug, PartialEq, Eq)]
+pub struct Rotation {
+    pub tag: u32,
+    pub sign: i8,
+    pub live: bool,
 }
 
-// The rotation `id`, dead ones too.
-pub fn read(h: &[u64], l: usize, cap: usize, id: usize) -> Told
+// The rotation `id`, dead ones too; or none, where there is no such rotation.
+pub fn read(h: &[u64], l: usize, cap: usize, id: usize) -> Result<Option<Rotation>, Corrupt>
     requires { (count_place cap l ≤ length h.now) × (cap ≤ 16777216) × (l ≤ 362) }
-    ensures refused { (f : Form) (n : ℕ) (m : State) → Holds f n cap l m h.now → Sane m → not_readable m.events id ≡ true → result ≡ nothing }
-    ensures says { (f : Form) (n : ℕ) (m : State) → Holds f n cap l m h.now → Sane m → not_readable m.events id ≡ false → result ≡ read_of (reading m.events id) }
+    ensures nothing { (f : Form) (n : ℕ) (m : State) → Holds f n cap l m h.now → Sane m → not_readable m.events id ≡ true → result ≡ Ok None }
+    ensures says { (f : Form) (n : ℕ) (m : State) → Holds f n cap l m h.now → Sane m → not_readable m.events id ≡ false → result ≡ Ok (Some (rotation_of (reading m.events id))) }
 {
     let events = h[0] as usize;
     if cap < events {
-        return Told::Bad;
+        return Err(Corrupt);
     }
     if events <= id {
-        return Told::Nothing;
+        return Ok(None);
     }
     let word = h[2 + 4 * cap + id];
     if word == 0 {
-        return Told::Nothing;
+        return Ok(None);
     }
-    let tag = word / 4;
-    if tag >= 0x100000000 {
-        return Told::Bad;
-    }
+    let Ok(tag) = u32::try_from(word / 4) else {
+        return Err(Corrupt);
+    };
+    let sign = match word % 4 {
+        1 => 1,
+        3 => -1,
+        _ => return Err(Corrupt),
+    };
     let live = contains(&h[2 + 6 * cap + cap * (2 * l)..], id);
-    if word % 4 == 1 {
-        return Told::Says {
-            tag: tag as u32,
-            sign: 1,
-            live: live,
-        };
-    }
-    if word % 4 == 3 {
-        return Told::Says {
-            tag: tag as u32,
-            sign: -1,
-            live: live,
-        };
-    }
-    Told::Bad
+    Ok(Some(Rotation { tag, sign, live }))
 }

@@ -1,5 +1,5 @@
 // What is done to the lists of the form that was opened: `lists` at its place in the history's words (specs/Words.antt).
-ghost use Rattle.std.specs.Prelude.{◌≡◌, Ok, IsOk, ◌+◌, ◌*◌, ◌≤◌, ◌<◌, ◌^◌, length};
+ghost use Rattle.std.specs.Prelude.{◌≡◌, true, false, ◌+◌, ◌*◌, ◌≤◌, ◌<◌, ◌^◌, length, Ok, IsOk};
 ghost use Rattle.model.specs.Events.{Event, State, record1, kill};
 ghost use Rattle.model.specs.Search.{walk, phase2};
 ghost use Rattle.pauli.specs.Rows.{of_row};
@@ -10,7 +10,7 @@ use lists::budget::{Budget, Scan};
 use pauli::corrupt::Corrupt;
 use pauli::rows::signature;
 
-#[derive(Clone, Copy)]
+#[derive(Clone, Copy, Debug, PartialEq, Eq, Hash)]
 pub enum Form {
     Scalar,
     Sliced,

@@ -4,6 +4,7 @@
 
 pub mod chains;
 pub mod events;
+pub mod findings;
 pub mod forms;
 pub mod kill;
 pub mod looks;

@@ -1,14 +1,15 @@
 // Recording an event (the Rust's `History::push` and `record_rotation`), and the clear.
-ghost use Rattle.std.specs.Prelude.{◌≡◌, ℕ, ◌+◌, ◌*◌, ◌≤◌, ◌<◌, ◌^◌, length, List};
+ghost use Rattle.std.specs.Prelude.{◌≡◌, ℕ, ◌+◌, ◌*◌, ◌≤◌, ◌<◌, ◌^◌, length, List, Ok};
 ghost use Rattle.model.specs.Events as model;
 ghost use Rattle.model.specs.Events.{Event, State, record1, clear};
 ghost use Rattle.history.specs.Words.{count_place, Holds, Sane, Becomes};
 ghost use Rattle.history.specs.Sizes.{form_of, Sized};
-ghost use Rattle.history.specs.Recordings.{numbered, Noted, Labelled, SignedBody, Stored, EventsHeld, Fresh, Recorded};
+ghost use Rattle.history.specs.Recordings.{Noted, Labelled, SignedBody, Stored, EventsHeld, Fresh, Recorded};
 
 use super::chains::{bucket, link};
 use super::events::{Body, body_word};
 use super::forms::{Form, push_lists};
+use pauli::corrupt::Corrupt;
 use pauli::rows::signature;
 
 // The axis, the signature, the tag's word and the live bit of event `id`. Live bits above it are cleared: no sweep at the opening is needed.
@@ -54,14 +55,7 @@ fn put_event(h: &mut [u64], l: usize, cap: usize, id: usize, axis: &[u64], sig: 
     }
 }
 
-// The number of a new event; or that there is no room for it, or a stored value is bad.
-#[derive(Clone, Copy)]
-pub enum Kept {
-    As(usize),
-    Bad,
-}
-
-// Records an event with the axis.
+// Records an event with the axis, and gives its number. There has to be room for it.
 pub fn record(
     h: &mut [u64],
     form: Form,
@@ -70,22 +64,20 @@ pub fn record(
     cap: usize,
     axis: &[u64],
     body: Body,
-) -> Kept
+) -> Result<usize, Corrupt>
     requires { Sized (form_of form) n cap l h.old × (length axis.now ≡ 2 * l) × SignedBody body }
     ensures long { length h.new ≡ length h.old }
-    ensures done { (m : State) (e : Event) → Holds (form_of form) n cap l m h.old → Sane m → length m.events < cap → Recorded n axis.now body e → (result ≡ numbered (length m.events)) × Becomes (form_of form) n cap l (record1 e m) h.old h.new }
+    ensures done { (m : State) (e : Event) → Holds (form_of form) n cap l m h.old → Sane m → length m.events < cap → Recorded n axis.now body e → (result ≡ Ok (length m.events)) × Becomes (form_of form) n cap l (record1 e m) h.old h.new }
 {
     let id = h[0] as usize;
     if cap <= id {
-        return Kept::Bad;
+        return Err(Corrupt);
     }
     let sig = signature(axis, l);
     put_event(h, l, cap, id, axis, sig, body);
-    let Ok(()) = push_lists(h, form, n, l, cap, id, axis, sig) else {
-        return Kept::Bad;
-    };
+    push_lists(h, form, n, l, cap, id, axis, sig)?;
     h[0] = (id + 1) as u64;
-    Kept::As(id)
+    Ok(id)
 }
 
 // No rotation recorded so far can be found: a walk stops at the first number below the one that is kept here.

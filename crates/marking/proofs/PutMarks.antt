@@ -17,7 +17,7 @@ use Rattle.model.specs.Demands.{IsSign, Small}
 use Rattle.model.proofs.Good.{Good, EventOk, AllOk, origin, axis_ok, seven_ok}
 use Rattle.model.proofs.Within.{small_times}
 use Rattle.pauli.specs.Rows.{answer}
-use Rattle.std.proofs.Common.{Option, Some, None}
+use Rattle.std.proofs.Common.{Option, Some, None, Result, Ok, is_ok}
 use Rattle.frame.specs.declared.axes.Basis.{Basis}
 use Rattle.frame.specs.declared.axes.Basis.TheVariants as basis
 use Rattle.frame.specs.Places as frames
@@ -27,11 +27,10 @@ use Rattle.frame.specs.declared.axes.Kind.{Kind}
 use Rattle.frame.specs.declared.axes.Tag.{Tag}
 use Rattle.history.specs.Words.{Holds, Sane, Becomes}
 use Rattle.history.specs.Sizes.{form_of}
-use Rattle.history.specs.Recordings.{numbered, Recorded}
+use Rattle.history.specs.Recordings.{Recorded}
 use Rattle.history.specs.declared.events.Body.{Body}
 use Rattle.history.specs.declared.events.Body.TheVariants.{Rotation, Blocker}
-use Rattle.history.specs.declared.record.Kept.{Kept}
-use Rattle.history.specs.declared.record.Kept.TheVariants as kept
+use Rattle.pauli.specs.declared.corrupt.Corrupt.{Corrupt}
 use Rattle.history.proofs.Theorems.{Good-Sane}
 use Rattle.store.specs.declared.header.Sizes.{Sizes}
 use Rattle.store.specs.Stores.{Stored, StoredTo}
@@ -86,12 +85,12 @@ put_fit z s ys f long =
       fits = omega (arith, same, f.fits);
     }
 
-module _ (z : Sizes) (s ys row : List ℕ) (body : Body) (r : Kept) (f : Fit z s)
+module _ (z : Sizes) (s ys row : List ℕ) (body : Body) (r : Result ℕ Corrupt) (f : Fit z s)
     (done : (m : State) (e : Event) → Holds (form_of z.form) z.n z.cap z.l m (take (z.end - z.at) (drop z.at s)) → Sane m → length m.events < z.cap
     → Recorded z.n (axis_words row) body e
-    → (r ≡ numbered (length m.events)) × Becomes (form_of z.form) z.n z.cap z.l (record1 e m) (take (z.end - z.at) (drop z.at s)) ys) where
+    → (r ≡ Ok (length m.events)) × Becomes (form_of z.form) z.n z.cap z.l (record1 e m) (take (z.end - z.at) (drop z.at s)) ys) where
   put_to : (m : State) (e : Event) → Stored m s → Good m → length m.events < m.given.capacity → Recorded m.given.n (axis_words row) body e
-      → (r ≡ numbered (length m.events)) × StoredTo (record1 e m) s (splice z.at (z.end - z.at) s ys)
+      → (r ≡ Ok (length m.events)) × StoredTo (record1 e m) s (splice z.at (z.end - z.at) s ys)
   put_to m e h g room new =
       let o : Own z m = own z m s f h in
       let held : Holds (form_of z.form) z.n z.cap z.l m (take (z.end - z.at) (drop z.at s))
@@ -105,14 +104,8 @@ module _ (z : Sizes) (s ys row : List ℕ) (body : Body) (r : Kept) (f : Fit z s
             (subst (λ (t : List ℕ). Becomes (form_of z.form) z.n z.cap z.l (record1 e m) t ys) (lent_is z s f) w.1)),
       )
 
-  pub put_kept : Puts row body s true (splice z.at (z.end - z.at) s ys)
-  put_kept m e h g room new = (refl, (put_to m e h g room new).1)
-
-  pub put_bad : r ≡ kept.Bad → Puts row body s false (splice z.at (z.end - z.at) s ys)
-  put_bad e m v h g room new = absurd (wrong r (length m.events) e (put_to m v h g room new).0)
-    where
-      wrong : (r : Kept) (id : ℕ) → r ≡ kept.Bad → r ≡ kept.As id → ⊥
-      wrong r id e h = let q : ◌≡◌ {A = ℕ} 0 1 = cc in omega (arith, q)
+  pub put_done : Puts row body s (is_ok r) (splice z.at (z.end - z.at) s ys)
+  put_done m e h g room new = let w = put_to m e h g room new in (ap is_ok w.0, w.1)
 
 -- ---- one event of a state
 

@@ -10,7 +10,6 @@ use super::rows::{axis_into, product_into, row_into};
 use frame::axes::{Basis, Kind, label, row_sign};
 use history::events::Body;
 use history::forms::Form;
-use history::record::Kept;
 use store::header::Sizes;
 
 #[derive(Clone, Copy)]
@@ -39,10 +38,7 @@ fn put(
     ensures fit { Fit (sizes n l form cap allowance at end) s.new }
     ensures done { Puts row.now body s.old result s.new }
 {
-    match history::record::record(&mut s[at..end], form, n, l, cap, &row[1..], body) {
-        Kept::As(_) => true,
-        Kept::Bad => false,
-    }
+    history::record::record(&mut s[at..end], form, n, l, cap, &row[1..], body).is_ok()
 }
 
 // Records a rotation.

@@ -8,72 +8,62 @@ ghost use Rattle.model.specs.Events.{scalar};
 ghost use Rattle.history.specs.Sizes.{form_of, Sized};
 
 use history::events::Body;
+use history::findings::{Found, Look};
 use history::forms::Form;
-use history::kill::Killed;
-use history::looks::Seen;
-use history::record::Kept;
-use std::io;
+use history::kill::KillError;
+use pauli::corrupt::Corrupt;
+use std::{fmt, io};
 
-// Writes a text and a number.
-fn field(rt: &impl Print, name: &[u8], number: u64) -> io::Result<()> {
-    rt.write_all(name)?;
-    rt.print(number)
-}
+// What a look said, as a line shows it.
+#[derive(Drop)]
+struct Outcome(Result<Look, Corrupt>);
 
-// Writes what a look says.
-fn answer(rt: &impl Print, seen: Seen) -> io::Result<()> {
-    match seen {
-        Seen::Found { id, sign, steps } => {
-            field(rt, b" look=found id=", id as u64)?;
-            field(rt, b" steps=", steps as u64)
+impl fmt::Display for Outcome {
+    fn fmt<W: fmt::Write>(&self, f: &mut fmt::Formatter<W>) -> fmt::Result {
+        let Ok(Look { found, steps }) = self.0 else {
+            return f.write_str("bad");
+        };
+        match found {
+            Found::Partner { id, .. } => write!(f, "found id={id} steps={steps}"),
+            Found::Nothing => write!(f, "free steps={steps}"),
+            Found::Blocked => write!(f, "blocked steps={steps}"),
+            Found::OutOfSteps => write!(f, "out steps={steps}"),
         }
-        Seen::Free(steps) => field(rt, b" look=free steps=", steps as u64),
-        Seen::Blocked(steps) => field(rt, b" look=blocked steps=", steps as u64),
-        Seen::Exhausted(steps) => field(rt, b" look=out steps=", steps as u64),
-        Seen::Bad => rt.write_all(b" look=bad"),
     }
 }
 
-// Writes the first part of a line.
-fn begin(rt: &impl Print, case: u64, form: Form, recorded: u64) -> io::Result<()> {
-    field(rt, b"case=", case)?;
+fn name(form: Form) -> &'static str {
     match form {
-        Form::Scalar => rt.write_all(b" form=scalar")?,
-        Form::Sliced => rt.write_all(b" form=sliced")?,
+        Form::Scalar => "scalar",
+        Form::Sliced => "sliced",
     }
-    field(rt, b" recorded=", recorded)
 }
 
-// Records a rotation about Z0. The answer is 1 if it is kept with this number, else 0.
-fn rotate(h: &mut [u64], form: Form, cap: usize, number: usize) -> u64
+// Records a rotation about Z0, and tells whether it is kept with this number.
+fn rotate(h: &mut [u64], form: Form, cap: usize, number: usize) -> bool
     requires { Sized (form_of form) 1 cap 1 h.old }
-    ensures long { length h.new ≡ length h.old }
-    ensures small { result ≤ 1 }
+    ensures { length h.new ≡ length h.old }
 {
-    let axis = [0u64, 1u64];
     let body = Body::Rotation {
         tag: 1,
         sign: 1,
         high: 0,
         low: 0,
     };
-    match history::record::record(h, form, 1, 1, cap, &axis, body) {
-        Kept::As(id) => { if id == number { 1 } else { 0 } }
-        Kept::Bad => 0,
-    }
+    history::record::record(h, form, 1, 1, cap, &[0, 1], body) == Ok(number)
 }
 
 // An empty history, and so many rotations about Z0. The answer is how many of them are kept with the next number.
-fn filled(h: &mut [u64], form: Form, cap: usize, many: usize) -> u64
+fn filled(h: &mut [u64], form: Form, cap: usize, many: usize) -> usize
     requires { Sized (form_of form) 1 cap 1 h.old }
     ensures { length h.new ≡ length h.old }
 {
     history::opening::fresh(h, form, 1, 1, cap);
-    let mut kept: u64 = 0;
-    let mut i: usize = 0;
-    while i < many {
-        kept = kept + rotate(h, form, cap, i);
-        i = i + 1;
+    let mut kept = 0;
+    for i in 0..many {
+        if rotate(h, form, cap, i) {
+            kept += 1;
+        }
     }
     kept
 }
@@ -81,7 +71,7 @@ fn filled(h: &mut [u64], form: Form, cap: usize, many: usize) -> u64
 // So many rotations about Z0 and a look for Z0, with an allowance.
 fn searched(
     rt: &impl Print,
-    case: u64,
+    case: u32,
     h: &mut [u64],
     form: Form,
     cap: usize,
@@ -91,31 +81,26 @@ fn searched(
     requires { Sized (form_of form) 1 cap 1 h.old }
     ensures { length h.new ≡ length h.old }
 {
-    let axis = [0u64, 1u64];
     let kept = filled(h, form, cap, many);
-    begin(rt, case, form, kept)?;
-    field(rt, b" allowance=", allowance as u64)?;
-    answer(
-        rt,
-        history::looks::look(h, form, 1, 1, cap, &axis, 1, 0, 0, allowance),
-    )?;
-    rt.write_all(b"\n")
+    let look = Outcome(history::looks::look(h, form, 1, 1, cap, &[0, 1], 1, 0, 0, allowance));
+    let form = name(form);
+    println!(rt; "case={case} form={form} recorded={kept} allowance={allowance} look={look}")
 }
 
 // Kills a rotation of a scalar history of four, and writes the two counts of list 0, whose words are 35 and 36.
-fn killed(rt: &impl Print, h: &mut [u64], kept: u64, id: usize) -> io::Result<()>
+fn killed(rt: &impl Print, h: &mut [u64], kept: usize, id: usize) -> io::Result<()>
     requires { Sized scalar 1 4 1 h.old }
     ensures { length h.new ≡ length h.old }
 {
-    begin(rt, 12, Form::Scalar, kept)?;
+    print!(rt; "case=12 form=scalar recorded={kept}")?;
     match history::kill::kill(h, Form::Scalar, 1, 1, 4, id) {
-        Killed::Done => field(rt, b" killed=", id as u64)?,
-        Killed::Refused => rt.write_all(b" refused")?,
-        Killed::Bad => rt.write_all(b" bad")?,
+        Ok(()) => print!(rt; " killed={id}")?,
+        Err(KillError::NoSuchEvent) => print!(rt; " refused")?,
+        Err(KillError::Corrupt) => print!(rt; " bad")?,
     }
-    field(rt, b" length=", h[35])?;
-    field(rt, b" dead=", h[36])?;
-    rt.write_all(b"\n")
+    let length = h[35];
+    let dead = h[36];
+    println!(rt; " length={length} dead={dead}")
 }
 
 fn main(rt: HostRuntime) -> io::Result<()> {

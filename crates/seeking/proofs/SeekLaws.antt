@@ -24,7 +24,7 @@ use Rattle.model.proofs.Products.{has_sign}
 use Rattle.model.proofs.Within.{Within-axis}
 use Rattle.pauli.specs.Rows as rows
 use Rattle.pauli.specs.Rows.{of_row}
-use Rattle.std.proofs.Common.{Option, Some, None}
+use Rattle.std.proofs.Common.{Option, Some, None, Result, Ok, Err, IsOk, IsErrOf, is_ok}
 use Rattle.pauli.proofs.Signs.{sign_cases, bits8, bits8_sign}
 use Rattle.pauli.proofs.Words.{rest_length}
 use Rattle.frame.specs.Places as frames
@@ -36,18 +36,16 @@ use Rattle.frame.specs.declared.axes.Tag.{Tag}
 use Rattle.frame.proofs.AxisLaws.{behind, row-behind, is_sign, some_sign}
 use Rattle.history.specs.Words.{body_word, Holds, Sane, Becomes}
 use Rattle.history.specs.Sizes.{form_of}
-use Rattle.history.specs.Kills as kills
-use Rattle.history.specs.Readings.{read_of, nothing}
+use Rattle.history.specs.Readings.{rotation_of}
 use Rattle.history.specs.Phases.{label_of, look_of}
-use Rattle.history.specs.declared.kill.Killed.{Killed}
-use Rattle.history.specs.declared.kill.Killed.TheVariants as killed
-use Rattle.history.specs.declared.events.Told.{Told}
-use Rattle.history.specs.declared.events.Told.TheVariants as told
-use Rattle.history.specs.declared.looks.Seen.{Seen}
-use Rattle.history.specs.declared.looks.Seen.TheVariants as seen
+use Rattle.pauli.specs.declared.corrupt.Corrupt.{Corrupt}
+use Rattle.history.specs.declared.kill.KillError.{KillError}
+use Rattle.history.specs.declared.kill.KillError.TheVariants as kill_error
+use Rattle.history.specs.declared.events.Rotation.{Rotation}
+use Rattle.history.specs.declared.findings.Look as seen
+use Rattle.history.specs.declared.findings.Found.TheVariants as found_here
 use Rattle.history.proofs.EventLaws.{rotation_Tells}
 use Rattle.history.proofs.LookLaws.{sign_bits, stopped_there}
-use Rattle.history.proofs.KillLaws.{nothing_Says, nothing_bad, bad_Says, done_kept, bad_kept, bad_done}
 use Rattle.store.specs.declared.header.Sizes.{Sizes}
 use Rattle.store.specs.declared.answers.Sight.{Sight}
 use Rattle.store.specs.declared.answers.Sight.TheVariants as sight
@@ -59,7 +57,8 @@ use Rattle.store.proofs.StoreLaws.{killed_to, cleared_to}
 use Rattle.store.proofs.AnswerLaws.{answer_last, last_named, numbered}
 use Rattle.store.proofs.LentLaws.{Held-Good, Held-Sane, lent, lent_frames, back, room_is, lent-Holds, frames-Held, back-length, back_same, back_place, history_fits, as_history}
 use Rattle.store.proofs.MeetLaws.{refuse_Answers, accept_Answers, nine_Answers, refuse_Meets, nine_Meets, accept_Meets}
-use Rattle.seeking.specs.Sights.{SignSeen, sight_of}
+use Rattle.history.specs.declared.findings.Found.{Found}
+use Rattle.seeking.specs.Sights.{SignSeen, found_of, sight_of}
 
 -- ---- the answer of a call that records nothing
 
@@ -100,25 +99,25 @@ module _ (z : Sizes) (s : List ℕ) (fit : Fit z s) (ys : List ℕ) where
       (as_history z s fit ys (clear m) q))
 
   -- a kill, by what `history` answered
-  module _ (id : ℕ) (r : Killed) (long : length ys ≡ length (lent z s))
-      (refuses : (m : State) → Holds (form_of z.form) z.n z.cap z.l m (lent z s) → Sane m → not_killable m.events id ≡ true → (r ≡ kills.refused) × (ys ≡ lent z s))
+  module _ (id : ℕ) (r : Result (Unit {0}) KillError) (long : length ys ≡ length (lent z s))
+      (refuses : (m : State) → Holds (form_of z.form) z.n z.cap z.l m (lent z s) → Sane m → not_killable m.events id ≡ true → IsErrOf r kill_error.NoSuchEvent × (ys ≡ lent z s))
       (does : (m : State) → Holds (form_of z.form) z.n z.cap z.l m (lent z s) → Sane m → not_killable m.events id ≡ false
-      → (r ≡ kills.done) × Becomes (form_of z.form) z.n z.cap z.l (kill id m) (lent z s) ys) where
+      → IsOk r × Becomes (form_of z.form) z.n z.cap z.l (kill id m) (lent z s) ys) where
     -- "0: done"
-    pub kill-Done : r ≡ killed.Done → Meets (call_kill id) s accepted (back z s ys)
+    pub kill-Done : (u : Unit {0}) → r ≡ Ok u → Meets (call_kill id) s accepted (back z s ys)
     unfolding number answer_to reply_of effect
-    kill-Done e = accept_Meets (call_kill id) s fit.framing.enough accepted refl (back z s ys) (back-length z s fit ys long) (λ m held.
+    kill-Done u e = accept_Meets (call_kill id) s fit.framing.enough accepted refl (back z s ys) (back-length z s fit ys long) (λ m held.
         let h = lent-Holds z s fit m held.stored in
         let k = go m h (Held-Sane m s held) (not_killable m.events id) refl in
         (answer_event z s fit m held.stored (not_killable m.events id) ∙ ap (λ (b : Bool). cond b 7 0) k.0, refl, back_killed id m held.stored k.1))
       where
         go : (m : State) → Holds (form_of z.form) z.n z.cap z.l m (lent z s) → Sane m → (b : Bool) → not_killable m.events id ≡ b
             → (not_killable m.events id ≡ false) × Becomes (form_of z.form) z.n z.cap z.l (kill id m) (lent z s) ys
-        go m h g true q = absurd (done_kept (sym e ∙ (refuses m h g q).0))
+        go m h g true q = let s = (refuses m h g q).0 in cc
         go m h g false q = (q, (does m h g q).1)
 
     -- "7: no such event, a blocker, or dead"
-    pub kill_refused : r ≡ killed.Refused → ys ≡ lent z s → Meets (call_kill id) s (refused 7) (back z s ys)
+    pub kill_refused : r ≡ Err kill_error.NoSuchEvent → ys ≡ lent z s → Meets (call_kill id) s (refused 7) (back z s ys)
     unfolding answer_to
     kill_refused e same = subst (Meets (call_kill id) s (refused 7)) (sym (back_same z s fit ys same)) (refuse_Meets (call_kill id) s fit.framing.enough 6 (omega arith) (λ m held.
         answer_event z s fit m held.stored (not_killable m.events id)
@@ -126,16 +125,16 @@ module _ (z : Sizes) (s : List ℕ) (fit : Fit z s) (ys : List ℕ) where
       where
         go : (m : State) → Holds (form_of z.form) z.n z.cap z.l m (lent z s) → Sane m → (b : Bool) → not_killable m.events id ≡ b → not_killable m.events id ≡ true
         go m h g true q = q
-        go m h g false q = absurd (done_kept (sym (does m h g q).0 ∙ e))
+        go m h g false q = let s = (does m h g q).0 in cc (ap is_ok e)
 
     -- a stored value is bad: no state is held
-    pub kill_bad : r ≡ killed.Bad → Meets (call_kill id) s (refused 9) (back z s ys)
+    pub kill_bad : r ≡ Err kill_error.Corrupt → Meets (call_kill id) s (refused 9) (back z s ys)
     kill_bad e = nine_Meets (call_kill id) s fit.framing.enough (back z s ys) (back-length z s fit ys long) (λ m held.
         go m (lent-Holds z s fit m held.stored) (Held-Sane m s held) (not_killable m.events id) refl)
       where
         go : (m : State) → Holds (form_of z.form) z.n z.cap z.l m (lent z s) → Sane m → (b : Bool) → not_killable m.events id ≡ b → ⊥
-        go m h g true q = bad_kept (sym e ∙ (refuses m h g q).0)
-        go m h g false q = bad_done (sym e ∙ (does m h g q).0)
+        go m h g true q = let s = (refuses m h g q).0 in cc
+        go m h g false q = let s = (does m h g q).0 in cc (ap is_ok e)
 
   -- ---- a clear
 
@@ -150,59 +149,55 @@ module _ (z : Sizes) (s : List ℕ) (fit : Fit z s) (ys : List ℕ) where
 
 -- ---- a read
 
-Says-reading : (v : Reading) (tag : ℕ) (sgn : ℤ) (live : Bool) → told.Says tag sgn live ≡ read_of v → says (record { tag = tag; sgn = sgn; live = live }) ≡ says v
-unfolding read_of
-Says-reading v tag sgn live e =
-    let a : tag ≡ v.tag = cc in
-    let b : sgn ≡ v.sgn = cc in
-    let c : live ≡ v.live = cc in rw (a, b, c) refl
+told_reading : (v : Reading) (w : Rotation) → w ≡ rotation_of v → says (record { tag = w.tag; sgn = w.sign; live = w.live }) ≡ says v
+unfolding rotation_of
+told_reading v w e = ap (λ (r : Rotation). says (record { tag = r.tag; sgn = r.sign; live = r.live })) e
 
-module _ (z : Sizes) (s : List ℕ) (fit : Fit z s) (id : ℕ) (r : Told)
-    (refuses : (f : Form) (n : ℕ) (m : State) → Holds f n z.cap z.l m (lent z s) → Sane m → not_readable m.events id ≡ true → r ≡ nothing)
-    (tells : (f : Form) (n : ℕ) (m : State) → Holds f n z.cap z.l m (lent z s) → Sane m → not_readable m.events id ≡ false → r ≡ read_of (reading m.events id)) where
+module _ (z : Sizes) (s : List ℕ) (fit : Fit z s) (id : ℕ) (r : Result (Option Rotation) Corrupt)
+    (nothing : (f : Form) (n : ℕ) (m : State) → Holds f n z.cap z.l m (lent z s) → Sane m → not_readable m.events id ≡ true → r ≡ Ok None)
+    (tells : (f : Form) (n : ℕ) (m : State) → Holds f n z.cap z.l m (lent z s) → Sane m → not_readable m.events id ≡ false → r ≡ Ok (Some (rotation_of (reading m.events id)))) where
   abbrev Reads : State → Bool → Type 0
-  Reads m true = r ≡ nothing
-  Reads m false = r ≡ read_of (reading m.events id)
+  Reads m true = r ≡ Ok None
+  Reads m false = r ≡ Ok (Some (rotation_of (reading m.events id)))
 
   -- on a state that is held
   reads : (m : State) → Held m s → (b : Bool) → not_readable m.events id ≡ b → Reads m b
-  reads m held true q = refuses (form_of z.form) z.n m (lent-Holds z s fit m held.stored) (Held-Sane m s held) q
+  reads m held true q = nothing (form_of z.form) z.n m (lent-Holds z s fit m held.stored) (Held-Sane m s held) q
   reads m held false q = tells (form_of z.form) z.n m (lent-Holds z s fit m held.stored) (Held-Sane m s held) q
 
   -- the sign is what the machine reads off its bits
-  pub read_Says : (tag : ℕ) (sgn : ℤ) (live : Bool) → SFits w8 sgn → r ≡ told.Says tag sgn live
-      → Answers (call_read id) s (says (record { tag = tag; sgn = bits8 sgn; live = live }))
+  pub read_Says : (w : Rotation) → SFits w8 w.sign → r ≡ Ok (Some w)
+      → Answers (call_read id) s (says (record { tag = w.tag; sgn = bits8 w.sign; live = w.live }))
   unfolding answer_to reply_of number
-  read_Says tag sgn live small e = accept_Answers (call_read id) s fit.framing.enough _ (omega arith) (λ m held.
+  read_Says w small e = accept_Answers (call_read id) s fit.framing.enough _ (omega arith) (λ m held.
       let k = go m (not_readable m.events id) refl (reads m held (not_readable m.events id) refl) in (
         answer_event z s fit m held.stored (not_readable m.events id) ∙ ap (λ (b : Bool). cond b 7 0) k.0,
-        ap (λ (g : ℤ). says (record { tag = tag; sgn = g; live = live })) (to_z-of_z w8 sgn small) ∙ Says-reading (reading m.events id) tag sgn live (sym e ∙ k.1),
+        ap (λ (g : ℤ). says (record { tag = w.tag; sgn = g; live = w.live })) (to_z-of_z w8 w.sign small) ∙ told_reading (reading m.events id) w k.1,
       ))
     where
-      go : (m : State) (b : Bool) → not_readable m.events id ≡ b → Reads m b → (not_readable m.events id ≡ false) × (r ≡ read_of (reading m.events id))
-      go m true q w = absurd (nothing_Says tag sgn live (sym w ∙ e))
-      go m false q w = (q, w)
+      go : (m : State) (b : Bool) → not_readable m.events id ≡ b → Reads m b → (not_readable m.events id ≡ false) × (w ≡ rotation_of (reading m.events id))
+      go m true q w = cc
+      go m false q w = (q, cc)
 
   -- "7: no such event or a blocker"
-  pub read_nothing : r ≡ told.Nothing → Answers (call_read id) s (refused 7)
-  unfolding answer_to read_of
+  pub read_nothing : r ≡ Ok None → Answers (call_read id) s (refused 7)
+  unfolding answer_to
   read_nothing e = refuse_Answers (call_read id) s fit.framing.enough 6 (omega arith) (λ m held.
       answer_event z s fit m held.stored (not_readable m.events id)
       ∙ ap (λ (b : Bool). cond b 7 0) (go m (not_readable m.events id) refl (reads m held (not_readable m.events id) refl)))
     where
       go : (m : State) (b : Bool) → not_readable m.events id ≡ b → Reads m b → not_readable m.events id ≡ true
       go m true q w = q
-      go m false q w = absurd (nothing_Says _ _ _ (sym e ∙ w))
+      go m false q w = cc
 
   -- a stored value is bad: no state is held
-  pub read_bad : r ≡ told.Bad → Answers (call_read id) s (refused 9)
-  unfolding read_of
-  read_bad e = nine_Answers (call_read id) s fit.framing.enough (λ m held.
+  pub read_bad : (x : Corrupt) → r ≡ Err x → Answers (call_read id) s (refused 9)
+  read_bad x e = nine_Answers (call_read id) s fit.framing.enough (λ m held.
       go m (not_readable m.events id) (reads m held (not_readable m.events id) refl))
     where
       go : (m : State) (b : Bool) → Reads m b → ⊥
-      go m true w = nothing_bad (sym w ∙ e)
-      go m false w = bad_Says _ _ _ (sym e ∙ w)
+      go m true w = cc
+      go m false w = cc
 
 -- ---- a look
 
@@ -231,12 +226,13 @@ module _ (row : List ℕ) (r : Option ℤ) (signs : (l : ℕ) (p : Pauli) → le
         ∙ sign_cases (λ (a : ℤ). (of_z w8 a ≡ 1 → ⊥) → neg_ℤ (bits8 own) ≡ a *ℤ own) (λ u. absurd (u refl))
         (λ u. sign_cases (λ (b : ℤ). neg_ℤ (bits8 b) ≡ negsuc 0 *ℤ b) refl refl own signed) kept t k)
 
--- a partner that was seen: its sign is what the machine reads off its bits
-pub sight_Found : (v : Seen) (id n : ℕ) (g h : ℤ) (a : Reply) → v ≡ seen.Found id g n → SignSeen v → (IsSign (bits8 g) → a ≡ looked (found id (bits8 g *ℤ h) n)) → a ≡ sight_of h v
-unfolding sight_of
-sight_Found v id n g h a e s f =
+-- a partner that was found: its sign is what the machine reads off its bits
+pub sight_Found : (v : seen.Look) (id : ℕ) (g h : ℤ) (a : Reply) → v.found ≡ found_here.Partner id g → SignSeen v
+    → (IsSign (bits8 g) → a ≡ looked (found id (bits8 g *ℤ h) v.steps)) → a ≡ sight_of h v
+unfolding sight_of found_of
+sight_Found v id g h a e s f =
     let t : IsSign g = rw e at s in
-    f (sign_bits g t) ∙ ap (λ (k : ℤ). looked (found id (k *ℤ h) n)) (bits8_sign g t) ∙ sym (ap (sight_of h) e)
+    f (sign_bits g t) ∙ ap (λ (k : ℤ). looked (found id (k *ℤ h) v.steps)) (bits8_sign g t) ∙ sym (ap (λ (w : Found). looked (found_of h w v.steps)) e)
 
 -- A look for the axis taken with the sign +1, and one for the axis with the sign g: a partner has the sign that it keeps in the first, and its
 -- product with g in the second.
@@ -245,7 +241,7 @@ module _ (m : State) (sane : Sane m) (g : ℤ) (a : Label) (x z : ℕ) where
   Turned v w = SignSeen (look_of v) × (sight_of g (look_of v) ≡ looked w)
 
   turned2 : (id : ℕ) → IsSign (sign_at (event_at m.events id).body) → (w : Walk) → Turned (looked2 m (pos 1) id w) (looked2 m g id w)
-  unfolding looked2 look_of sight_of
+  unfolding looked2 look_of sight_of found_of
   turned2 id s (done left) =
       sign_cases (λ (k : ℤ). IsSign (k *ℤ pos 1) × (looked (found id (k *ℤ pos 1 *ℤ g) (spent m left)) ≡ looked (found id (k *ℤ g) (spent m left))))
       (inl refl, refl) (inr refl, refl) (sign_at (event_at m.events id).body) s
@@ -253,7 +249,7 @@ module _ (m : State) (sane : Sane m) (g : ℤ) (a : Label) (x z : ℕ) where
   turned2 id s (dry left) = (tt, refl)
 
   turned1 : (w : Walk) → walk (phase1 m a x z) m.given.allowance ≡ w → Turned (looked1 m (pos 1) x z w) (looked1 m g x z w)
-  unfolding looked1 look_of sight_of
+  unfolding looked1 look_of sight_of found_of
   turned1 (done left) e = (tt, refl)
   turned1 (stopped id left) e =
       let there = stopped_there m a x z m.given.allowance id left e in
@@ -264,6 +260,9 @@ module _ (m : State) (sane : Sane m) (g : ℤ) (a : Label) (x z : ℕ) where
   look_Turned : Turned (look_for m (pos 1) a x z) (look_for m g a x z)
   unfolding look_for
   look_Turned = turned1 (walk (phase1 m a x z) m.given.allowance) refl
+
+same_ok : (v w : seen.Look) → ◌≡◌ {A = Result seen.Look Corrupt} (Ok v) (Ok w) → v ≡ w
+same_ok v w e = cc
 
 same_look : (m : State) (g : ℤ) (a b : Label) (x y u w : ℕ) → a ≡ b → x ≡ y → u ≡ w → look_for m g a x u ≡ look_for m g b y w
 same_look m g a b x y u w f i j = rw (f, i, j) refl
@@ -279,31 +278,42 @@ module _ (z : Sizes) (s : List ℕ) (fit : Fit z s) (kind : model.Kind) (q : ℕ
       let l : q < m.given.n = omega (arith, inside, (own z m s fit h.stored).qubits) in
       has_sign (axis paulis kind q m.frame) (even_axis m.given.n m.frame kind q (Held-Good m s h).sound l)
 
-  -- v is what the history saw of the axis taken with the sign +1, and a the answer
-  pub sought_seen : (t : Tag) → ((f : Rows Pauli) (k : Rows Label) → frames.Held z.n z.l f k (lent_frames z s) → tag_of t ≡ axis labels kind q k)
-      → (v : Seen) → ((m : State) → Holds (form_of z.form) z.n z.cap z.l m (lent z s) → Sane m → m.given.allowance ≡ z.allowance
+  -- r is the history's answer for the axis taken with the sign +1
+  module _ (t : Tag) (tags : (f : Rows Pauli) (k : Rows Label) → frames.Held z.n z.l f k (lent_frames z s) → tag_of t ≡ axis labels kind q k) (r : Result seen.Look Corrupt)
+      (seen_is : (m : State) → Holds (form_of z.form) z.n z.cap z.l m (lent z s) → Sane m → m.given.allowance ≡ z.allowance
       → (of_row 0 (behind 1 row)).x < 2 ^ z.n → (of_row 0 (behind 1 row)).z < 2 ^ z.n
-      → v ≡ look_of (look_for m (pos 1) (label_of t.high t.low) (of_row 0 (behind 1 row)).x (of_row 0 (behind 1 row)).z))
-      → (a : Reply) → ((l : ℕ) (p : Pauli) → length row ≡ 2 * l + 1 → IsRow l row 0 p → HasSign p → SignSeen v → a ≡ sight_of (sign p) v)
-      → (m : State) → Held m s → IsRow z.l row 0 (axis paulis kind q m.frame) → a ≡ looked (look kind q m)
-  unfolding look of_row tag_of label_of
-  sought_seen t tags v seen_is a turns m h i =
-      let p : Pauli = axis paulis kind q m.frame in
-      let o : Own z m = own z m s fit h.stored in
-      let same : of_row (get_or row 0 0) (behind 1 row) ≡ p = row-behind z.l row p long i in
-      let x_same : (of_row 0 (behind 1 row)).x ≡ p.x = ap (λ (k : Pauli). k.x) same in
-      let z_same : (of_row 0 (behind 1 row)).z ≡ p.z = ap (λ (k : Pauli). k.z) same in
-      let b = Within-axis m.given.n kind q m.frame (Held-Good m s h).within in
-      let x_small : (of_row 0 (behind 1 row)).x < 2 ^ z.n = subst (λ (k : ℕ). (of_row 0 (behind 1 row)).x < 2 ^ k) o.qubits (subst (λ (k : ℕ). k < 2 ^ m.given.n) (sym x_same) b.x_small) in
-      let z_small : (of_row 0 (behind 1 row)).z < 2 ^ z.n = subst (λ (k : ℕ). (of_row 0 (behind 1 row)).z < 2 ^ k) o.qubits (subst (λ (k : ℕ). k < 2 ^ m.given.n) (sym z_same) b.z_small) in
-      let label : Label = axis labels kind q m.sketch in
-      let l_same : label_of t.high t.low ≡ label = tags m.frame m.sketch (frames-Held z s fit m h.stored) in
-      let e : v ≡ look_of (look_for m (pos 1) label p.x p.z) =
-      seen_is m (lent-Holds z s fit m h.stored) (Held-Sane m s h) o.allowance x_small z_small
-      ∙ ap look_of
-      (same_look m (pos 1) (label_of t.high t.low) label (of_row 0 (behind 1 row)).x p.x (of_row 0 (behind 1 row)).z p.z l_same x_same z_same) in
-      let w = look_Turned m (Held-Sane m s h) (sign p) label p.x p.z in
-      turns z.l p long i (axis_signed m h) (subst SignSeen (sym e) w.0) ∙ ap (sight_of (sign p)) e ∙ w.1
+      → r ≡ Ok (look_of (look_for m (pos 1) (label_of t.high t.low) (of_row 0 (behind 1 row)).x (of_row 0 (behind 1 row)).z))) where
+    history_saw : (m : State) → Held m s → IsRow z.l row 0 (axis paulis kind q m.frame)
+        → r ≡ Ok (look_of (look_for m (pos 1) (axis labels kind q m.sketch) (axis paulis kind q m.frame).x (axis paulis kind q m.frame).z))
+    unfolding of_row tag_of label_of
+    history_saw m h i =
+        let p : Pauli = axis paulis kind q m.frame in
+        let o : Own z m = own z m s fit h.stored in
+        let same : of_row (get_or row 0 0) (behind 1 row) ≡ p = row-behind z.l row p long i in
+        let x_same : (of_row 0 (behind 1 row)).x ≡ p.x = ap (λ (k : Pauli). k.x) same in
+        let z_same : (of_row 0 (behind 1 row)).z ≡ p.z = ap (λ (k : Pauli). k.z) same in
+        let b = Within-axis m.given.n kind q m.frame (Held-Good m s h).within in
+        let x_small : (of_row 0 (behind 1 row)).x < 2 ^ z.n = subst (λ (k : ℕ). (of_row 0 (behind 1 row)).x < 2 ^ k) o.qubits (subst (λ (k : ℕ). k < 2 ^ m.given.n) (sym x_same) b.x_small) in
+        let z_small : (of_row 0 (behind 1 row)).z < 2 ^ z.n = subst (λ (k : ℕ). (of_row 0 (behind 1 row)).z < 2 ^ k) o.qubits (subst (λ (k : ℕ). k < 2 ^ m.given.n) (sym z_same) b.z_small) in
+        let label : Label = axis labels kind q m.sketch in
+        let l_same : label_of t.high t.low ≡ label = tags m.frame m.sketch (frames-Held z s fit m h.stored) in
+        seen_is m (lent-Holds z s fit m h.stored) (Held-Sane m s h) o.allowance x_small z_small
+        ∙ ap (λ (a : Look). Ok (look_of a))
+        (same_look m (pos 1) (label_of t.high t.low) label (of_row 0 (behind 1 row)).x p.x (of_row 0 (behind 1 row)).z p.z l_same x_same z_same)
+
+    -- v is what it saw, and a the answer
+    pub sought_seen : (v : seen.Look) → r ≡ Ok v → (a : Reply) → ((l : ℕ) (p : Pauli) → length row ≡ 2 * l + 1 → IsRow l row 0 p → HasSign p → SignSeen v → a ≡ sight_of (sign p) v)
+        → (m : State) → Held m s → IsRow z.l row 0 (axis paulis kind q m.frame) → a ≡ looked (look kind q m)
+    unfolding look
+    sought_seen v is a turns m h i =
+        let p : Pauli = axis paulis kind q m.frame in
+        let e : v ≡ look_of (look_for m (pos 1) (axis labels kind q m.sketch) p.x p.z) = same_ok v _ (sym is ∙ history_saw m h i) in
+        let w = look_Turned m (Held-Sane m s h) (sign p) (axis labels kind q m.sketch) p.x p.z in
+        turns z.l p long i (axis_signed m h) (subst SignSeen (sym e) w.0) ∙ ap (sight_of (sign p)) e ∙ w.1
+
+    -- a stored value is bad: no state is held
+    pub sought_bad : (x : Corrupt) → r ≡ Err x → (m : State) → Held m s → IsRow z.l row 0 (axis paulis kind q m.frame) → ⊥
+    sought_bad x is m h i = let w = history_saw m h i in cc
 
 pub look_y : (kind : Kind) (q : ℕ) (a : Reply) (m : State) → kind ≡ kinds.Y → a ≡ looked (look model.kind_y q m) → a ≡ looked (look (kind_of kind) q m)
 unfolding kind_of

@@ -1,23 +1,29 @@
 -- What the history saw of an axis taken with the sign +1, as what a look gives back. Assumes nothing.
-use Rattle.std.specs.Prelude.{ℤ, ◌*ℤ◌}
-use Rattle.model.specs.Search.{found, none, blocked, out}
-use Rattle.model.specs.Calls.{Reply, refused, looked}
+use Rattle.std.specs.Prelude.{ℕ, ℤ, ◌*ℤ◌}
+use Rattle.model.specs.Search as search
+use Rattle.model.specs.Calls.{Reply, looked}
 use Rattle.model.specs.Demands.{IsSign}
-use Rattle.history.specs.declared.looks.Seen.{Seen}
-use Rattle.history.specs.declared.looks.Seen.TheVariants.{Found, Free, Blocked, Exhausted, Bad}
+use Rattle.history.specs.declared.findings.Look.{Look}
+use Rattle.history.specs.declared.findings.Found.{Found}
+use Rattle.history.specs.declared.findings.Found.TheVariants.{Partner, Nothing, Blocked, OutOfSteps}
 
--- a partner that was seen has a sign
-abbrev pub SignSeen : Seen → Type 0
-SignSeen (Found id sgn n) = IsSign sgn
-SignSeen (Free n) = Unit {0}
-SignSeen (Blocked n) = Unit {0}
-SignSeen (Exhausted n) = Unit {0}
-SignSeen Bad = Unit {0}
+-- a partner that was found has a sign
+abbrev pub SignFound : Found → Type 0
+SignFound (Partner id sgn) = IsSign sgn
+SignFound Nothing = Unit {0}
+SignFound Blocked = Unit {0}
+SignFound OutOfSteps = Unit {0}
+
+abbrev pub SignSeen : Look → Type 0
+SignSeen a = SignFound a.found
 
 -- .. where the axis has the sign g: "the relative sign, the product of both signs"
-unfoldable pub sight_of : (g : ℤ) → Seen → Reply
-sight_of g (Found id sgn n) = looked (found id (sgn *ℤ g) n)
-sight_of g (Free n) = looked (none n)
-sight_of g (Blocked n) = looked (blocked n)
-sight_of g (Exhausted n) = looked (out n)
-sight_of g Bad = refused 9
+unfoldable pub found_of : (g : ℤ) → Found → (steps : ℕ) → search.Look
+found_of g (Partner id sgn) n = search.found id (sgn *ℤ g) n
+found_of g Nothing n = search.none n
+found_of g Blocked n = search.blocked n
+found_of g OutOfSteps n = search.out n
+
+unfoldable pub sight_of : (g : ℤ) → Look → Reply
+unfolding found_of
+sight_of g a = looked (found_of g a.found a.steps)

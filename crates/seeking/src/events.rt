@@ -3,8 +3,8 @@
 ghost use Rattle.model.specs.Calls.{call_kill, call_clear, call_read};
 ghost use Rattle.store.specs.Promises.{told, told_read, Answers, Meets};
 
-use history::events::Told;
-use history::kill::Killed;
+use history::events::Rotation;
+use history::kill::KillError;
 use store::answers::{Answer, Reading};
 use store::header::{Checked, check, sizes_of};
 
@@ -21,9 +21,9 @@ pub fn kill(s: &mut [u64], id: usize) -> Answer
             let end = z.end;
             let form = z.form;
             match history::kill::kill(&mut s[at..end], form, z.n, z.l, z.cap, id) {
-                Killed::Done => Answer::Done,
-                Killed::Refused => Answer::Refused(7),
-                Killed::Bad => Answer::Refused(9),
+                Ok(()) => Answer::Done,
+                Err(KillError::NoSuchEvent) => Answer::Refused(7),
+                Err(KillError::Corrupt) => Answer::Refused(9),
             }
         }
     }
@@ -58,13 +58,13 @@ pub fn read(s: &[u64], id: usize) -> Reading
             let at = z.at;
             let end = z.end;
             match history::events::read(&s[at..end], z.l, z.cap, id) {
-                Told::Says { tag, sign, live } => Reading::Says {
+                Ok(Some(Rotation { tag, sign, live })) => Reading::Says {
                     tag: tag,
                     sign: sign,
                     live: live,
                 },
-                Told::Nothing => Reading::Refused(7),
-                Told::Bad => Reading::Refused(9),
+                Ok(None) => Reading::Refused(7),
+                Err(_) => Reading::Refused(9),
             }
         }
     }

@@ -15,8 +15,8 @@ ghost use Rattle.store.specs.Promises.{number, told_look, Answers};
 ghost use Rattle.seeking.specs.Sights.{SignSeen, sight_of};
 
 use frame::axes::{Basis, Kind, axis_row, label, row_sign, y_product};
+use history::findings::{Found, Look};
 use history::forms::Form;
-use history::looks::Seen;
 use pauli::rows::opposite;
 use store::answers::Sight;
 use store::header::{Checked, Sizes, check, sizes_of};
@@ -43,17 +43,17 @@ fn relative(id: usize, kept: i8, steps: u32, row: &[u64]) -> Sight
 }
 
 // What the history saw of the row's axis taken with the sign +1, as the answer of a look.
-fn sight(seen: Seen, row: &[u64]) -> Sight
+fn sight(seen: Look, row: &[u64]) -> Sight
     requires { length row.now % 2 ≡ 1 }
     ensures few { number (told_look result) ≤ 9 }
     ensures says { (l : ℕ) (p : Pauli) → length row.now ≡ 2 * l + 1 → IsRow l row.now 0 p → HasSign p → SignSeen seen → told_look result ≡ sight_of (sign p) seen }
 {
-    match seen {
-        Seen::Found { id, sign, steps } => relative(id, sign, steps, row),
-        Seen::Free(steps) => Sight::Nothing(steps),
-        Seen::Blocked(steps) => Sight::Blocked(steps),
-        Seen::Exhausted(steps) => Sight::Out(steps),
-        Seen::Bad => Sight::Refused(9),
+    let steps = seen.steps;
+    match seen.found {
+        Found::Partner { id, sign } => relative(id, sign, steps, row),
+        Found::Nothing => Sight::Nothing(steps),
+        Found::Blocked => Sight::Blocked(steps),
+        Found::OutOfSteps => Sight::Out(steps),
     }
 }
 
@@ -76,21 +76,21 @@ fn sought(
     ensures says { (m : State) → Held m s.now → IsRow l row.now 0 (axis paulis (kind_of kind) q m.frame) → told_look result ≡ looked (look (kind_of kind) q m) }
 {
     let tag = label(&s[14..at], n, l, kind, q);
-    sight(
-        history::looks::look(
-            &s[at..end],
-            form,
-            n,
-            l,
-            cap,
-            &row[1..],
-            1,
-            tag.high,
-            tag.low,
-            allowance,
-        ),
-        row,
-    )
+    match history::looks::look(
+        &s[at..end],
+        form,
+        n,
+        l,
+        cap,
+        &row[1..],
+        1,
+        tag.high,
+        tag.low,
+        allowance,
+    ) {
+        Ok(seen) => sight(seen, row),
+        Err(_) => Sight::Refused(9),
+    }
 }
 
 // The look for the axis y, whose row is written to `out`.

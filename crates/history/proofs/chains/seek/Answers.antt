@@ -11,5 +11,5 @@ pub loop-v-preserved : goal.loop-v-preserved
 loop-v-preserved c =
     (omega arith, omega arith, refl, λ p n f ch i e. walk_goes p n _ _ _ _ f ch i e _ _ _ (c.loop-v.invariant.3 p n f ch i e) (omega arith))
 
-pub returns-clause-found : goal.returns-clause-found
-returns-clause-found c = λ p n f ch i e. let b = walk_reaches p n _ _ _ _ f ch i e _ _ _ (c.loop-v.invariant.3 p n f ch i e) in omega arith
+pub returns-else-v-id-clause-found : goal.returns-else-v-id-clause-found
+returns-else-v-id-clause-found c = λ p n f ch i e. let b = walk_reaches p n _ _ _ _ f ch i e _ _ _ (c.loop-v.invariant.3 p n f ch i e) in omega arith

@@ -6,5 +6,5 @@ use Rattle.history.proofs.events.body_word.Goals as goal
 pub returns-then-sign-eq1 : goal.returns-then-sign-eq1
 returns-then-sign-eq1 c = word_plus (4 * c.args.tag) c.args.sign c.requires c.if-sign-eq1.true
 
-pub returns : goal.returns
-returns c = word_minus (4 * c.args.tag) c.args.sign c.requires c.if-sign-eq1.false
+pub returns-else-sign-eq1 : goal.returns-else-sign-eq1
+returns-else-sign-eq1 c = word_minus (4 * c.args.tag) c.args.sign c.requires c.if-sign-eq1.false

@@ -3,7 +3,6 @@
 use Rattle.history.specs.Sizes.{form_of}
 use Rattle.history.proofs.StayLaws.{counts_there}
 use Rattle.history.proofs.KillLaws.{kill-Done}
-use mathlib.Core.Path.{◌∙◌}
 use native.Mathlib.Omega.{arith}
 use Rattle.history.proofs.kill.kill_live.Goals as goal
 
@@ -22,11 +21,9 @@ drop_event-requires c =
     let a = c.args in
     (counts_there (form_of a.form) a.n a.cap a.l a.h.now c.requires.0, c.requires.0.some, c.requires.0.few, c.requires.1)
 
-pub returns-then-drop_event-clause-done : goal.returns-then-drop_event-clause-done
-returns-then-drop_event-clause-done c =
+pub returns-clause-done : goal.returns-clause-done
+returns-clause-done c =
     let a = c.args in
     let d = c.drop_event in
     let k = c.kill_lists in
-    λ m holds sane e.
-    let done = kill-Done (form_of a.form) a.n a.cap a.l a.id a.h.now d.new.h k.new.h d.result k.result d.ensures.done k.ensures.done m holds sane e in
-    (c.is_ok.ensures.value ∙ done.0, done.1)
+    kill-Done (form_of a.form) a.n a.cap a.l a.id a.h.now d.new.h k.new.h d.result k.result d.ensures.done k.ensures.done

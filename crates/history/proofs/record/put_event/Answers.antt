@@ -15,7 +15,7 @@ use Rattle.history.proofs.record.put_event.Goals.{In-Rotation}
 -- a tag is a number of 32 bits
 few : (c : In-Rotation) →
     c.in-Rotation.tag < 2 ^ 32
-few c = omega (arith, c.in-Rotation.known_told-1-own.given.0)
+few c = omega arith
 
 pub returns-in-Blocker : goal.returns-in-Blocker
 unfolding body_of

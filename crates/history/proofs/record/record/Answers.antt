@@ -1,10 +1,10 @@
 -- `history::record::record` meets its contract: the words of the event, then those of its lists, then the count (RecordLaws). Assumes nothing.
-use Rattle.std.specs.Prelude.{is_err}
-use Rattle.support.proofs.FamilyLaws.{refuses}
 use mathlib.Core.Path.{ap}
+use Rattle.std.proofs.Common.{Ok}
 use Rattle.history.specs.Sizes.{form_of}
 use Rattle.history.proofs.StayLaws.{counts_there}
 use Rattle.history.proofs.RecordLaws.{record_goes, record_ends}
+use Rattle.history.proofs.KillLaws.{no_err}
 use native.Mathlib.Omega.{arith}
 use Rattle.history.proofs.record.record.Goals as goal
 
@@ -18,13 +18,13 @@ put_event-requires c =
     let a = c.args in
     (counts_there (form_of a.form) a.n a.cap a.l a.h.now c.requires.0, c.requires.0.some, c.requires.0.few, omega arith, c.requires.1, c.requires.2)
 
-pub returns-in_default-clause-done : goal.returns-in_default-clause-done
-returns-in_default-clause-done c =
+pub returns-in_err-push_lists-clause-done : goal.returns-in_err-push_lists-clause-done
+returns-in_err-push_lists-clause-done c =
     let a = c.args in
     let sg = c.signature-sig in
     let put = c.put_event in
     let lists = c.push_lists in
-    λ m e held sane room new. absurd (refuses lists.result (ap is_err c.in_default.is) (record_goes (form_of a.form) a.n a.cap a.l sg.result a.axis.now a.body a.h.now put.new.h lists.new.h lists.result sg.ensures put.ensures.0 lists.ensures.done m e held sane room new))
+    λ m e held sane room new. absurd (no_err (record_goes (form_of a.form) a.n a.cap a.l sg.result a.axis.now a.body a.h.now put.new.h lists.new.h lists.result sg.ensures put.ensures.0 lists.ensures.done m e held sane room new) c.in_err-push_lists.was)
 
 pub bounds-h-0-2 : goal.bounds-h-0-2
 bounds-h-0-2 c =
@@ -39,4 +39,5 @@ returns-clause-done c =
     let sg = c.signature-sig in
     let put = c.put_event in
     let lists = c.push_lists in
-    λ m e held sane room new. record_ends (form_of a.form) a.n a.cap a.l sg.result a.axis.now a.body a.h.now put.new.h lists.new.h lists.result sg.ensures put.ensures.0 lists.ensures.done m e held sane room new
+    λ m e held sane room new. let ends = record_ends (form_of a.form) a.n a.cap a.l sg.result a.axis.now a.body a.h.now put.new.h lists.new.h lists.result sg.ensures put.ensures.0 lists.ensures.done m e held sane room new in
+    (ap Ok ends.0, ends.1)

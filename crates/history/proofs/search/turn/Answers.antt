@@ -12,7 +12,7 @@ use Rattle.history.proofs.Spending.{spend_Told}
 use Rattle.history.proofs.Turning.{met_there, met_compared, Turn-cleared, high-Onward, low-Onward, Turn-dry, turn_match, Turn-past}
 use native.Mathlib.Omega.{arith}
 use Rattle.history.proofs.search.turn.Goals as goal
-use Rattle.history.proofs.search.turn.Goals.{After-same, In-Some}
+use Rattle.history.proofs.search.turn.Goals.{After-same, In-Some, then-h-at-via-then-h-at, then-h-at-via-else-h-at+then-h-at-2}
 
 -- the event's axis stands within the words
 row_room : (c : In-Some) →
@@ -42,13 +42,10 @@ pub returns-then-h-at-clause-turn : goal.returns-then-h-at-clause-turn
 returns-then-h-at-clause-turn c =
     let a = c.args in
     let on = c.onward.ensures in
-    λ f n m met. high-Onward f n m a.cap a.l a.events a.cleared a.high a.low _ _ a.cur _ (omega arith) met a.left _ c.if-h-at.true on
-
-pub returns-then-h-at-2-clause-turn : goal.returns-then-h-at-2-clause-turn
-returns-then-h-at-2-clause-turn c =
-    let a = c.args in
-    let on = c.onward-then-h-at-2.ensures in
-    λ f n m met. low-Onward f n m a.cap a.l a.events a.cleared a.high a.low _ _ a.cur _ (omega arith) met a.left _ c.if-h-at.false c.if-h-at-2.true on
+    λ f n m met. elim c.then-h-at.branch [
+      | then-h-at-via-then-h-at w ↦ high-Onward f n m a.cap a.l a.events a.cleared a.high a.low _ _ a.cur _ (omega arith) met a.left _ w.if-h-at.true on
+      | then-h-at-via-else-h-at+then-h-at-2 w ↦ low-Onward f n m a.cap a.l a.events a.cleared a.high a.low _ _ a.cur _ (omega arith) met a.left _ w.if-h-at.false w.if-h-at-2.true on
+    ]
 
 pub returns-then-same-clause-turn : goal.returns-then-same-clause-turn
 returns-then-same-clause-turn c =
@@ -56,14 +53,14 @@ returns-then-same-clause-turn c =
     let told = spend_Told a.left 1 _ (sym c.in-Some.is ∙ c.spend.ensures) in
     λ f n m met. turn_match f n m a.cap a.l a.events a.cleared a.high a.low _ _ a.cur _ (omega arith) met a.left (omega arith) c.if-h-at.false c.if-h-at-2.false _ told.1 told.0 (compared (goal.at.returns-then-same-clause-turn c).After-same f n m met ∙ c.if-same.true)
 
-pub returns-in-None-clause-turn : goal.returns-in-None-clause-turn
-returns-in-None-clause-turn c =
+pub returns-in_default-clause-turn : goal.returns-in_default-clause-turn
+returns-in_default-clause-turn c =
     let a = c.args in
-    λ f n m met. Turn-dry f n m a.cap a.l a.events a.cleared a.high a.low _ _ a.cur _ (omega arith) met a.left (omega arith) c.if-h-at.false c.if-h-at-2.false (spend_Told a.left 1 _ (sym c.in-None.is ∙ c.spend.ensures))
+    λ f n m met. Turn-dry f n m a.cap a.l a.events a.cleared a.high a.low _ _ a.cur _ (omega arith) met a.left (omega arith) c.if-h-at.false c.if-h-at-2.false (spend_Told a.left 1 _ (sym c.in_default.is ∙ c.spend.ensures))
 
-pub returns-else-same-clause-turn : goal.returns-else-same-clause-turn
-returns-else-same-clause-turn c =
+pub returns-clause-turn : goal.returns-clause-turn
+returns-clause-turn c =
     let a = c.args in
-    let on = c.onward-in-Some.ensures in
+    let on = c.onward-2.ensures in
     let told = spend_Told a.left 1 _ (sym c.in-Some.is ∙ c.spend.ensures) in
-    λ f n m met. Turn-past f n m a.cap a.l a.events a.cleared a.high a.low _ _ a.cur _ (omega arith) met a.left (omega arith) c.if-h-at.false c.if-h-at-2.false _ told.1 told.0 _ (compared (goal.at.returns-else-same-clause-turn c).After-same f n m met ∙ c.if-same.false) on
+    λ f n m met. Turn-past f n m a.cap a.l a.events a.cleared a.high a.low _ _ a.cur _ (omega arith) met a.left (omega arith) c.if-h-at.false c.if-h-at-2.false _ told.1 told.0 _ (compared (goal.at.returns-clause-turn c).After-same f n m met ∙ c.if-same.false) on

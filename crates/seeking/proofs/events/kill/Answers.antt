@@ -1,4 +1,7 @@
 -- `seeking::events::kill` meets its contract: by what the header and then `history` told. Assumes nothing.
+use mathlib.Core.Path.{◌≡◌}
+use Rattle.std.proofs.Common.{Err}
+use Rattle.history.specs.declared.kill.KillError.TheVariants as kill_error
 use Rattle.seeking.proofs.SeekLaws.{kill-Done, kill_refused, kill_bad}
 use Rattle.store.proofs.LentLaws.{lent-Sized}
 use Rattle.store.proofs.MeetLaws.{short_Meets, Damaged-Meets}
@@ -18,14 +21,18 @@ pub returns-in-Bad : goal.returns-in-Bad
 unfolding told
 returns-in-Bad c = Damaged-Meets (call_kill c.args.id) c.args.s.now (tells_bad c.args.s.now c.check.result c.in-Bad.is c.check.ensures)
 
-pub returns-in-Done : goal.returns-in-Done
+pub returns-in-Ok : goal.returns-in-Ok
 unfolding told
-returns-in-Done c = kill-Done c.sizes_of-z.result c.args.s.now c.sizes_of-z.ensures c.kill.new.h c.args.id c.kill.result c.kill.ensures.long c.kill.ensures.refused c.kill.ensures.done c.in-Done.is
+returns-in-Ok c = kill-Done c.sizes_of-z.result c.args.s.now c.sizes_of-z.ensures c.kill.new.h c.args.id c.kill.result c.kill.ensures.long c.kill.ensures.refused c.kill.ensures.done _ c.in-Ok.is
 
-pub returns-in-Refused : goal.returns-in-Refused
+pub returns-in-Err-NoSuchEvent : goal.returns-in-Err-NoSuchEvent
 unfolding told
-returns-in-Refused c = kill_refused c.sizes_of-z.result c.args.s.now c.sizes_of-z.ensures c.kill.new.h c.args.id c.kill.result c.kill.ensures.long c.kill.ensures.refused c.kill.ensures.done c.in-Refused.is (c.kill.ensures.kept c.in-Refused.is)
+returns-in-Err-NoSuchEvent c =
+    let e : c.kill.result ≡ Err kill_error.NoSuchEvent = cc in
+    kill_refused c.sizes_of-z.result c.args.s.now c.sizes_of-z.ensures c.kill.new.h c.args.id c.kill.result c.kill.ensures.long c.kill.ensures.refused c.kill.ensures.done e (c.kill.ensures.kept e)
 
-pub returns-in-Bad-kill : goal.returns-in-Bad-kill
+pub returns-in-Err-Corrupt : goal.returns-in-Err-Corrupt
 unfolding told
-returns-in-Bad-kill c = kill_bad c.sizes_of-z.result c.args.s.now c.sizes_of-z.ensures c.kill.new.h c.args.id c.kill.result c.kill.ensures.long c.kill.ensures.refused c.kill.ensures.done c.in-Bad-kill.is
+returns-in-Err-Corrupt c =
+    let e : c.kill.result ≡ Err kill_error.Corrupt = cc in
+    kill_bad c.sizes_of-z.result c.args.s.now c.sizes_of-z.ensures c.kill.new.h c.args.id c.kill.result c.kill.ensures.long c.kill.ensures.refused c.kill.ensures.done e

@@ -1,4 +1,7 @@
 -- `seeking::events::read` meets its contract: by what the header and then `history` told. Assumes nothing.
+use mathlib.Core.Path.{ap, ◌∙◌}
+use Rattle.std.proofs.Common.{Ok}
+use native.Mathlib.Omega.{arith}
 use Rattle.seeking.proofs.SeekLaws.{read_Says, read_nothing, read_bad}
 use Rattle.store.proofs.LentLaws.{planes_small, lent_counts}
 use Rattle.store.proofs.MeetLaws.{short_Answers, Damaged-Answers}
@@ -18,14 +21,14 @@ pub returns-in-Bad : goal.returns-in-Bad
 unfolding told_read
 returns-in-Bad c = Damaged-Answers (call_read c.args.id) c.args.s.now (tells_bad c.args.s.now c.check.result c.in-Bad.is c.check.ensures)
 
-pub returns-in-Says : goal.returns-in-Says
+pub returns-in-Ok-Some : goal.returns-in-Ok-Some
 unfolding told_read
-returns-in-Says c = read_Says c.sizes_of-z.result c.args.s.now c.sizes_of-z.ensures c.args.id c.read.result c.read.ensures.refused c.read.ensures.says c.in-Says.tag c.in-Says.sign c.in-Says.live (record { sfits = c.in-Says.known_told-1-own.given.1.0.1 }) c.in-Says.is
+returns-in-Ok-Some c = read_Says c.sizes_of-z.result c.args.s.now c.sizes_of-z.ensures c.args.id c.read.result c.read.ensures.nothing c.read.ensures.says c.in-Ok-Some.field-0-0 (record { sfits = omega arith }) (c.in-Ok-Some.is ∙ ap Ok c.in-Ok-Some.field-0-is)
 
-pub returns-in-Nothing : goal.returns-in-Nothing
+pub returns-in-Ok-None : goal.returns-in-Ok-None
 unfolding told_read
-returns-in-Nothing c = read_nothing c.sizes_of-z.result c.args.s.now c.sizes_of-z.ensures c.args.id c.read.result c.read.ensures.refused c.read.ensures.says c.in-Nothing.is
+returns-in-Ok-None c = read_nothing c.sizes_of-z.result c.args.s.now c.sizes_of-z.ensures c.args.id c.read.result c.read.ensures.nothing c.read.ensures.says (c.in-Ok-None.is ∙ ap Ok c.in-Ok-None.field-0-is)
 
-pub returns-in-Bad-read : goal.returns-in-Bad-read
+pub returns-in-Err : goal.returns-in-Err
 unfolding told_read
-returns-in-Bad-read c = read_bad c.sizes_of-z.result c.args.s.now c.sizes_of-z.ensures c.args.id c.read.result c.read.ensures.refused c.read.ensures.says c.in-Bad-read.is
+returns-in-Err c = read_bad c.sizes_of-z.result c.args.s.now c.sizes_of-z.ensures c.args.id c.read.result c.read.ensures.nothing c.read.ensures.says _ c.in-Err.is
