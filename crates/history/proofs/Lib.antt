@@ -12,6 +12,7 @@ pub mod OpenLaws
 -- The lists of the form.
 pub mod FormLaws
 pub mod ScanForm
+pub mod ListPlaces
 -- A record and a kill, of all words.
 pub mod RecordLaws
 pub mod KillLaws

@@ -1,16 +1,18 @@
 -- The sizes that the history is handed, and the lists of its form. Assumes nothing.
-use Rattle.std.specs.Prelude.{◌≡◌, true, List, ℕ, ◌^◌, ◌≤◌, ◌<◌, length}
+use Rattle.std.specs.Prelude.{◌≡◌, true, List, ℕ, ◌+◌, ◌*◌, ◌^◌, ◌≤◌, ◌<◌, length}
 use Rattle.model.specs.Events as model
 use Rattle.model.specs.Events.{Event, State, event_at, live_at, kill}
 use Rattle.model.specs.Store.{list_count}
 use Rattle.model.specs.Demands.{Listed}
 use Rattle.pauli.specs.Rows.{of_row, signature}
 use Rattle.lists.specs.Lists.{Only}
+use Rattle.support.specs.declared.families.ScalarLists.{ScalarLists}
+use Rattle.support.specs.declared.families.SlicedLists.{SlicedLists}
 use Rattle.lists.specs.Scans as scans
 use Rattle.lists.specs.Scans.{Axed}
 use Rattle.history.specs.declared.forms.Form.{Form}
 use Rattle.history.specs.declared.forms.Form.TheVariants.{Scalar, Sliced}
-use Rattle.history.specs.Words.{alive_place, axis_place, sig_place, history_room, Alive, Given, ListsIn, OfLists}
+use Rattle.history.specs.Words.{alive_place, axis_place, sig_place, count_place, history_room, Alive, Given, ListsIn, OfLists}
 
 -- the code's forms are `model`'s
 unfoldable pub form_of : Form → model.Form
@@ -41,6 +43,28 @@ pub record ListsHeld (f : model.Form) (n cap l : ℕ) (m : State) (h : List ℕ)
 pub record ListsTo (f : model.Form) (n cap l : ℕ) (m : State) (h g : List ℕ) : Type 0 where
   pub lists : ListsIn f m n cap l g
   pub only : Only (OfLists f n cap l m) h g
+
+-- where the lists of a form stand in the history's words
+abbrev pub scalar_lists_of : (cap l : ℕ) → ScalarLists
+scalar_lists_of cap l = record {
+  at = count_place cap l;
+  base = count_place cap l + 2 * 64;
+  cap = cap;
+  sigs = sig_place cap;
+  axes = axis_place cap;
+  l = l;
+  alive = alive_place cap l;
+}
+
+abbrev pub sliced_lists_of : (n cap l : ℕ) → SlicedLists
+sliced_lists_of n cap l = record {
+  at = count_place cap l;
+  base = count_place cap l + 2 * n;
+  cap = cap;
+  n = n;
+  axes = axis_place cap;
+  alive = alive_place cap l;
+}
 
 -- e is a live event with the axis `axis`, of n qubits, and the signature sig
 pub record Newcomer (n l : ℕ) (axis : List ℕ) (sig : ℕ) (e : Event) : Type 0 where

@@ -4,16 +4,52 @@ ghost use Rattle.model.specs.Events.{Event, State, record1, kill};
 ghost use Rattle.model.specs.Search.{walk, phase2};
 ghost use Rattle.pauli.specs.Rows.{of_row};
 ghost use Rattle.lists.specs.Scans.{scan_of};
-ghost use Rattle.history.specs.Sizes.{form_of, Sized, ListsHeld, ListsTo, Newcomer, Leaving, Scanned};
+ghost use Rattle.history.specs.Sizes.{form_of, Sized, ListsHeld, ListsTo, Newcomer, Leaving, Scanned, scalar_lists_of, sliced_lists_of};
 
 use lists::budget::{Budget, Scan};
 use pauli::corrupt::Corrupt;
 use pauli::rows::signature;
+use support::families::{ScalarLists, SlicedLists, kill, push, scan};
 
 #[derive(Clone, Copy, Debug, PartialEq, Eq, Hash)]
 pub enum Form {
     Scalar,
     Sliced,
+}
+
+// Where the scalar lists stand.
+fn scalar_lists(l: usize, cap: usize) -> ScalarLists
+    requires { (cap ≤ 2 ^ 24) × (l ≤ 362) }
+    ensures { result ≡ scalar_lists_of cap l }
+{
+    let alive = 2 + 6 * cap + cap * (2 * l);
+    let at = alive + (cap + 63) / 64;
+    ScalarLists {
+        at,
+        base: at + 2 * 64,
+        cap,
+        sigs: 2 + 5 * cap,
+        axes: 2 + 6 * cap,
+        l,
+        alive,
+    }
+}
+
+// Where the sliced lists stand.
+fn sliced_lists(n: usize, l: usize, cap: usize) -> SlicedLists
+    requires { (cap ≤ 2 ^ 24) × (l ≤ 362) × (n ≤ 32) }
+    ensures { result ≡ sliced_lists_of n cap l }
+{
+    let alive = 2 + 6 * cap + cap * (2 * l);
+    let at = alive + (cap + 63) / 64;
+    SlicedLists {
+        at,
+        base: at + 2 * n,
+        cap,
+        n,
+        axes: 2 + 6 * cap,
+        alive,
+    }
 }
 
 // The event `id` goes to the end of each list of its axis.
@@ -31,23 +67,18 @@ pub fn push_lists(
     ensures long { length h.new ≡ length h.old }
     ensures done { (m : State) (e : Event) → ListsHeld (form_of form) n cap l m h.old → length m.events ≡ id → id < cap → Newcomer n l axis.now sig e → IsOk result × ListsTo (form_of form) n cap l (record1 e m) h.old h.new }
 {
-    let counts = 2 + 6 * cap + cap * (2 * l) + (cap + 63) / 64;
     match form {
-        Form::Scalar => support::families::push_scalar(
-            h,
-            counts,
-            counts + 2 * 64,
-            cap,
-            sig,
-            id as u64,
-        ),
+        Form::Scalar => {
+            let lists = scalar_lists(l, cap);
+            push(&lists, h, sig, id as u64, axis)
+        }
         Form::Sliced => {
-            let x = axis[0];
-            let z = axis[1];
-            if (x | z) >> n != 0 {
+            let set = axis[0] | axis[1];
+            if set >> n != 0 {
                 return Err(Corrupt);
             }
-            support::families::push_sliced(h, counts, counts + 2 * n, cap, n, id as u64, x, z)
+            let lists = sliced_lists(n, l, cap);
+            push(&lists, h, set, id as u64, axis)
         }
     }
 }
@@ -67,34 +98,17 @@ pub fn kill_lists(
     ensures long { length h.new ≡ length h.old }
     ensures done { (m : State) → ListsHeld (form_of form) n cap l m h.old → length m.events ≡ events → Leaving n cap l m id sig h.old → IsOk result × ListsTo (form_of form) n cap l (kill id m) h.old h.new }
 {
-    let alive = 2 + 6 * cap + cap * (2 * l);
-    let counts = alive + (cap + 63) / 64;
     match form {
-        Form::Scalar => support::families::kill_scalar(
-            h,
-            counts,
-            counts + 2 * 64,
-            cap,
-            sig,
-            alive,
-            events,
-        ),
+        Form::Scalar => {
+            let lists = scalar_lists(l, cap);
+            kill(&lists, h, sig, id as u64, events)
+        }
         Form::Sliced => {
             if sig >> n != 0 {
                 return Err(Corrupt);
             }
-            support::families::kill_sliced(
-                h,
-                counts,
-                counts + 2 * n,
-                cap,
-                n,
-                sig,
-                id as u64,
-                alive,
-                2 + 6 * cap,
-                events,
-            )
+            let lists = sliced_lists(n, l, cap);
+            kill(&lists, h, sig, id as u64, events)
         }
     }
 }
@@ -114,32 +128,18 @@ pub fn scan_lists(
     requires { Sized (form_of form) n cap l h.now × (length axis.now ≡ 2 * l) × (events ≤ cap) }
     ensures { (m : State) → ListsHeld (form_of form) n cap l m h.now → Scanned cap l m events h.now → (of_row 0 axis.now).x < 2 ^ n → (of_row 0 axis.now).z < 2 ^ n → result ≡ Ok (scan_of (walk (phase2 m after (of_row 0 axis.now).x (of_row 0 axis.now).z) budget.0)) }
 {
-    let counts = 2 + 6 * cap + cap * (2 * l) + (cap + 63) / 64;
     match form {
         Form::Scalar => {
-            let sig = signature(axis, l);
-            support::families::scan_scalar(
-                h,
-                counts,
-                counts + 2 * 64,
-                cap,
-                2 + 5 * cap,
-                2 + 6 * cap,
-                l,
-                events,
-                axis,
-                sig,
-                after,
-                budget,
-            )
+            let lists = scalar_lists(l, cap);
+            scan(&lists, h, events, axis, signature(axis, l), after, budget)
         }
         Form::Sliced => {
-            let ax = axis[0];
-            let az = axis[1];
-            if (ax | az) >> n != 0 {
+            let set = axis[0] | axis[1];
+            if set >> n != 0 {
                 return Err(Corrupt);
             }
-            support::families::scan_sliced(h, counts, counts + 2 * n, cap, n, after, ax, az, budget)
+            let lists = sliced_lists(n, l, cap);
+            scan(&lists, h, events, axis, set, after, budget)
         }
     }
 }

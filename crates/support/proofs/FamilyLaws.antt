@@ -83,7 +83,7 @@ module _ {A : Type 0} (L at base size : ℕ) (One : ℕ → List ℕ → A → �
       → (b : ℕ) (x : A) (a : ℕ) → b < L → (b ≡ p → ⊥) → One b h x a → One b g x a
   other h g p y c room lp to on b x a l n = stays b h g x a (λ k i. on.kept k (λ u. rooms_apart L at base size b p k room l lp n i (inside p g y c to k u)))
 
-  more : (w p v : ℕ) (h g : List ℕ) → at + 2 * L ≤ base → Took w p v → p < L → has sig p ≡ 1 → One p g (ys p) (e p) → Only (Used p (ys p)) h g
+  pub more : (w p v : ℕ) (h g : List ℕ) → at + 2 * L ≤ base → Took w p v → p < L → has sig p ≡ 1 → One p g (ys p) (e p) → Only (Used p (ys p)) h g
       → Family L One Used sig xs ys d e h₀ w h → Family L One Used sig xs ys d e h₀ v g
   more w p v h g room t lp s to on f = record {
     done = λ b l sb z.
@@ -139,11 +139,11 @@ Counts-stay : (at k d : ℕ) (h g : List ℕ) → ((j : ℕ) → Among at 2 j �
 Counts-stay at k d h g same c = record { len = same at (omega arith, omega arith) ∙ c.len; dead = same (at + 1) (omega arith, omega arith) ∙ c.dead }
 
 module _ (at base cap : ℕ) where
-  scalar_inside : (b : ℕ) (h ids : List ℕ) (d : ℕ) → ScalarIn at base cap b h ids d → (k : ℕ) → ScalarUses at base cap b ids k → InRoom at base cap b k
+  pub scalar_inside : (b : ℕ) (h ids : List ℕ) (d : ℕ) → ScalarIn at base cap b h ids d → (k : ℕ) → ScalarUses at base cap b ids k → InRoom at base cap b k
   scalar_inside b h ids d o k =
       ⊎_elim (λ i. inl i) (λ (i : Among (base + b * cap) (length ids) k). let w = o.within in inr (i.0, omega arith))
 
-  scalar_stays : (b : ℕ) (h g ids : List ℕ) (d : ℕ) → ((k : ℕ) → InRoom at base cap b k → get_or g k 0 ≡ get_or h k 0) → ScalarIn at base cap b h ids d → ScalarIn at base cap b g ids d
+  pub scalar_stays : (b : ℕ) (h g ids : List ℕ) (d : ℕ) → ((k : ℕ) → InRoom at base cap b k → get_or g k 0 ≡ get_or h k 0) → ScalarIn at base cap b h ids d → ScalarIn at base cap b g ids d
   scalar_stays b h g ids d same o = record {
     counts = Counts-stay (at + 2 * b) (length ids) d h g (λ j i. same j (inl i)) o.counts;
     within = o.within;
@@ -207,7 +207,7 @@ Reps-stay base cap n h g m same r = record {
         ap (λ (v : ℕ). has v j) (same (mask_place base cap n b + (2 * p + t)) (omega arith, omega arith)) ∙ e
 
 module _ (at base cap n : ℕ) where
-  sliced_inside : (b : ℕ) (h : List ℕ) (m : List Entry) (d : ℕ) → SlicedIn at base cap n b h m d → (k : ℕ) → SlicedUses at base cap n b m k → InRoom at base (sliced_room cap n) b k
+  pub sliced_inside : (b : ℕ) (h : List ℕ) (m : List Entry) (d : ℕ) → SlicedIn at base cap n b h m d → (k : ℕ) → SlicedUses at base cap n b m k → InRoom at base (sliced_room cap n) b k
   sliced_inside b h m d o k =
       let w = o.reps.within in
       let u = words-le (length m) cap w in
@@ -217,7 +217,7 @@ module _ (at base cap n : ℕ) where
       (⊎_elim (λ (i : Among (base + b * sliced_room cap n + cap) (words (length m) * (2 * n)) k). inr (omega arith, omega arith))
       (λ (i : Among (live_place (base + b * sliced_room cap n) cap n 0) (words (length m)) k). inr (omega arith, omega arith))))
 
-  sliced_stays : (b : ℕ) (h g : List ℕ) (m : List Entry) (d : ℕ) → ((k : ℕ) → InRoom at base (sliced_room cap n) b k → get_or g k 0 ≡ get_or h k 0) → SlicedIn at base cap n b h m d → SlicedIn at base cap n b g m d
+  pub sliced_stays : (b : ℕ) (h g : List ℕ) (m : List Entry) (d : ℕ) → ((k : ℕ) → InRoom at base (sliced_room cap n) b k → get_or g k 0 ≡ get_or h k 0) → SlicedIn at base cap n b h m d → SlicedIn at base cap n b g m d
   sliced_stays b h g m d same o = record {
     counts = Counts-stay (at + 2 * b) (length m) d h g (λ j i. same j (inl i)) o.counts;
     reps = Reps-stay (base + b * sliced_room cap n) cap n h g m (λ j i. same j (inr i)) o.reps;
@@ -326,6 +326,10 @@ one_fits base cap n len l h = omega (arith, rooms_rise (size_of cap n) 0 n l)
 pub room_fits : (base cap n p len : ℕ) → p < n → base + n * sliced_room cap n ≤ len → base + (p * size_of cap n + size_of cap n) ≤ len
 unfolding words
 room_fits base cap n p len l h = omega (arith, rooms_rise (size_of cap n) p n l)
+
+pub room_below : (base cap n p len : ℕ) → p < n → base + n * sliced_room cap n < len → base + (p * size_of cap n + size_of cap n) < len
+unfolding words
+room_below base cap n p len l h = omega (arith, rooms_rise (size_of cap n) p n l)
 
 -- an axis that is not 1 has a qubit
 pub some_qubit : (n v : ℕ) → v < 2 ^ n → (v ≡ 0 → ⊥) → 0 < n

@@ -1,218 +1,299 @@
-// All lists of a form (the Rust's `SupportLists`): what is done to each list of an axis's signature, set bits rising. List b has its counts
-// at at + 2 b, and its room from base + b * size on: size is `cap` in the scalar form, cap + (2 n + 1) ((cap + 63) / 64) in the sliced one.
-ghost use Rattle.std.specs.Prelude.{◌≡◌, Ok, IsOk, List, ℕ, ◌+◌, ◌*◌, ◌≤◌, ◌<◌, ◌^◌, length};
-ghost use Rattle.std.specs.Int.Bits.{bit_or};
+// All lists of a form (the Rust's `SupportLists`): what is done to each list of an axis's signature, set bits rising, once for both forms. List b
+// has its counts at at + 2 b, and its room from base + b * size on: size is `cap` in the scalar form, cap + (2 n + 1) ((cap + 63) / 64) in the
+// sliced one. Its `Lists` says what is done to one list; proofs/FormRuns.antt what that makes of all of them.
+ghost use Rattle.std.specs.Prelude.{◌≡◌, Result, List, ℕ, ◌+◌, ◌*◌, ◌^◌, ◌≤◌, ◌<◌, length, slice_index};
+ghost use Rattle.sliced.specs.Blocks.{sliced_room};
 ghost use Rattle.model.specs.Pauli.{has};
-ghost use Rattle.model.specs.Events.{State, words};
-ghost use Rattle.model.specs.Search.{walk, phase2};
-ghost use Rattle.pauli.specs.Rows.{of_row, signature};
-ghost use Rattle.lists.specs.Lists.{Known, still};
-ghost use Rattle.lists.specs.Scalars.{pushed, noted};
-ghost use Rattle.sliced.specs.Blocks.{Entry, entry, fresh, Source, RisingIds, killed_at};
-ghost use Rattle.support.specs.Families.{chosen, ScalarRooms, Scalars, ScalarsTo, SlicedRooms, Sliceds, SlicedsTo, AllScannable, AllSliced};
-ghost use Rattle.lists.specs.Scans.{scan_of};
+ghost use Rattle.model.specs.Events.{words};
+ghost use Rattle.pauli.specs.declared.corrupt.Corrupt.{Corrupt};
+ghost use Rattle.lists.specs.declared.budget.Budget.{Budget};
+ghost use Rattle.lists.specs.declared.budget.Scan.{Scan};
+ghost use Rattle.support.specs.Families.{ScalarRooms, ScalarPushes, ScalarKills, ScalarScans, SlicedRooms, SlicedPushes, SlicedKills, SlicedScans, TwoWords};
+ghost use Rattle.support.specs.Runs.{Each, Scans};
 
 use lists::budget::{Budget, Scan};
-use pauli::bits::{lowest, rest};
+use pauli::bits::bits;
 use pauli::corrupt::Corrupt;
 
-// ---- scalar
+// ---- one list of many
 
-// Appends `id` to each list of sig.
-pub fn push_scalar(
+// The lists of one form, in words that each call lends.
+pub trait Lists {
+    // list b is one of them
+    ghost has_list: { Self → ℕ → Type 0 };
+
+    // the words have room for the lists, and the axis is one that they take
+    ghost can_push: { Self → List ℕ → List ℕ → Type 0 };
+
+    // the words have room for the lists, behind what is kept of so many events
+    ghost can_kill: { Self → List ℕ → ℕ → Type 0 };
+
+    ghost can_scan: { Self → List ℕ → ℕ → List ℕ → Type 0 };
+
+    // a call for list b: which event or which axis, the words before and after, and the answer
+    ghost pushes: { Self → ℕ → ℕ → List ℕ → List ℕ → List ℕ → Result (Unit {0}) Corrupt → Type 0 };
+
+    ghost kills: { Self → ℕ → ℕ → ℕ → List ℕ → List ℕ → Result (Unit {0}) Corrupt → Type 0 };
+
+    ghost scans: { Self → ℕ → ℕ → List ℕ → ℕ → ℕ → Budget → List ℕ → Result Scan Corrupt → Type 0 };
+
+    // Appends the event `id` with the axis to list b.
+    fn push(&self, h: &mut [u64], b: usize, id: u64, axis: &[u64]) -> Result<(), Corrupt>
+        requires { can_push self.now h.old axis.now × has_list self.now b }
+        ensures long { length h.new ≡ length h.old }
+        ensures done { pushes self.now b id axis.now h.old h.new result };
+
+    // The entry of event `id` is dead in list b, and its event no longer in the set of live events.
+    fn kill(&self, h: &mut [u64], b: usize, id: u64, events: usize) -> Result<(), Corrupt>
+        requires { can_kill self.now h.old events × has_list self.now b }
+        ensures long { length h.new ≡ length h.old }
+        ensures done { kills self.now b id events h.old h.new result };
+
+    // The entries of list b after the event `after`; sig is the signature of the axis.
+    fn scan(
+        &self,
+        h: &[u64],
+        b: usize,
+        events: usize,
+        axis: &[u64],
+        sig: u64,
+        after: usize,
+        budget: Budget,
+    ) -> Result<Scan, Corrupt>
+        requires { can_scan self.now h.now events axis.now × has_list self.now b × (b < 64) }
+        ensures { scans self.now b events axis.now sig after budget h.now result };
+}
+
+// ---- each list of a signature
+
+// Appends the event `id` with the axis to each list of sig.
+pub fn push<L: Lists>(
+    lists: &L,
     h: &mut [u64],
-    at: usize,
-    base: usize,
-    cap: usize,
     sig: u64,
     id: u64,
+    axis: &[u64],
 ) -> Result<(), Corrupt>
-    requires { ScalarRooms h.old at base cap }
+    requires room { (g : List ℕ) → length g ≡ length h.old → L.can_push lists.now g axis.now }
+    requires there { (b : ℕ) → b < 64 → has sig b ≡ 1 → L.has_list lists.now b }
     ensures long { length h.new ≡ length h.old }
-    ensures done { (ls : ℕ → List ℕ) (d : ℕ → ℕ) → Scalars h.old at base cap ls d → ((b : ℕ) → b < 64 → has sig b ≡ 1 → length (ls b) < cap) → IsOk result × ScalarsTo h.old at base cap sig (chosen sig (λ b. pushed id (ls b)) ls) d h.new }
+    ensures done { Each (λ b s t r. L.pushes lists.now b id axis.now s t r) sig h.old h.new result }
 {
-    let mut w = sig;
-    while w != 0 {
-        let b = lowest(w) as usize;
-        lists::scalar::push(h, at + 2 * b, base + b * cap, cap, id)?;
-        w = rest(w);
+    for b in bits(sig) {
+        lists.push(h, b, id, axis)?;
     }
     Ok(())
 }
 
-// One more entry is dead in each list of sig: its event is no longer in the set of live events at `alive`.
-pub fn kill_scalar(
+// The entry of event `id` is dead in each list of sig.
+pub fn kill<L: Lists>(
+    lists: &L,
     h: &mut [u64],
-    at: usize,
-    base: usize,
-    cap: usize,
     sig: u64,
-    alive: usize,
+    id: u64,
     events: usize,
 ) -> Result<(), Corrupt>
-    requires { ScalarRooms h.old at base cap × (alive + words events ≤ at) }
+    requires room { (g : List ℕ) → length g ≡ length h.old → L.can_kill lists.now g events }
+    requires there { (b : ℕ) → b < 64 → has sig b ≡ 1 → L.has_list lists.now b }
     ensures long { length h.new ≡ length h.old }
-    ensures done { (ls : ℕ → List ℕ) (d : ℕ → ℕ) → Scalars h.old at base cap ls d → ((b : ℕ) → b < 64 → has sig b ≡ 1 → (d b < length (ls b)) × Known events (ls b)) → IsOk result × ScalarsTo h.old at base cap sig (chosen sig (λ b. noted h.old alive (d b) (ls b)) ls) (chosen sig (λ b. still 4 (d b + 1) (length (ls b))) d) h.new }
+    ensures done { Each (λ b s t r. L.kills lists.now b id events s t r) sig h.old h.new result }
 {
-    let mut w = sig;
-    while w != 0 {
-        let b = lowest(w) as usize;
-        lists::scalar::note_dead(h, at + 2 * b, base + b * cap, cap, alive, events)?;
-        w = rest(w);
+    for b in bits(sig) {
+        lists.kill(h, b, id, events)?;
     }
     Ok(())
 }
 
-// The entries after the event `after` of each list of sig, the signature of the axis.
-pub fn scan_scalar(
+// The entries after the event `after` in each list of sig, the signature of the axis.
+pub fn scan<L: Lists>(
+    lists: &L,
     h: &[u64],
-    at: usize,
-    base: usize,
-    cap: usize,
-    sigs: usize,
-    axes: usize,
-    l: usize,
     events: usize,
     axis: &[u64],
     sig: u64,
     after: usize,
     budget: Budget,
 ) -> Result<Scan, Corrupt>
-    requires { ScalarRooms h.now at base cap × (sigs + events ≤ length h.now) × (axes + events * (2 * l) ≤ length h.now) × (length axis.now ≡ 2 * l) }
-    ensures { (s : State) → AllScannable s l events h.now at base cap sigs axes → sig ≡ signature l (of_row 0 axis.now).x (of_row 0 axis.now).z → result ≡ Ok (scan_of (walk (phase2 s after (of_row 0 axis.now).x (of_row 0 axis.now).z) budget.0)) }
+    requires room { L.can_scan lists.now h.now events axis.now }
+    requires there { (b : ℕ) → b < 64 → has sig b ≡ 1 → L.has_list lists.now b }
+    ensures { Scans (λ b left r. L.scans lists.now b events axis.now sig after left h.now r) sig budget result }
 {
-    let mut w = sig;
     let mut left = budget;
-    while w != 0 {
-        let b = lowest(w) as usize;
-        let len = h[at + 2 * b] as usize;
-        if cap < len {
-            return Err(Corrupt);
-        }
-        match lists::scalar::scan(
-            h,
-            base + b * cap,
-            len,
-            sigs,
-            axes,
-            l,
-            events,
-            axis,
-            sig,
-            b,
-            after,
-            left,
-        )? {
+    for b in bits(sig) {
+        match lists.scan(h, b, events, axis, sig, after, left)? {
             Scan::Clear(now) => left = now,
             stopped => return Ok(stopped),
         }
-        w = rest(w);
     }
     Ok(Scan::Clear(left))
+}
+
+// ---- scalar
+
+// 64 scalar lists, those of a signature's bits: where their counts and their rooms begin, the events that a room takes, where the signatures
+// and the axes of l words in a plane of the events begin, and the set of the live ones.
+#[derive(Clone, Copy, Debug, PartialEq, Eq)]
+pub struct ScalarLists {
+    pub at: usize,
+    pub base: usize,
+    pub cap: usize,
+    pub sigs: usize,
+    pub axes: usize,
+    pub l: usize,
+    pub alive: usize,
+}
+
+impl ScalarLists {
+    // Where the room of list b begins.
+    fn room(&self, b: usize) -> usize
+        requires { (b < 64) × (self.now.base + 64 * self.now.cap < 2 ^ 64) }
+        ensures { result ≡ self.now.base + b * self.now.cap }
+    {
+        self.base + b * self.cap
+    }
+}
+
+impl Lists for ScalarLists {
+    ghost has_list = { λ s b. b < 64 };
+
+    ghost can_push = { λ s h axis. ScalarRooms h s.at s.base s.cap };
+
+    ghost can_kill = { λ s h events. ScalarRooms h s.at s.base s.cap × (s.alive + words events ≤ s.at) };
+
+    ghost can_scan = { λ s h events axis. ScalarRooms h s.at s.base s.cap × (s.sigs + events ≤ length h) × (s.axes + events * (2 * s.l) ≤ length h) × (length axis ≡ 2 * s.l) };
+
+    ghost pushes = { λ s b id axis h g r. ScalarPushes s.at s.base s.cap b id h g r };
+
+    ghost kills = { λ s b id events h g r. ScalarKills s.at s.base s.cap s.alive events b h g r };
+
+    ghost scans = { λ s b events axis sig after left h r. ScalarScans s.at s.base s.cap s.sigs s.axes s.l events b axis sig after left h r };
+
+    fn push(&self, h: &mut [u64], b: usize, id: u64, axis: &[u64]) -> Result<(), Corrupt> {
+        lists::scalar::push(h, self.at + 2 * b, self.room(b), self.cap, id)
+    }
+
+    fn kill(&self, h: &mut [u64], b: usize, id: u64, events: usize) -> Result<(), Corrupt> {
+        lists::scalar::note_dead(
+            h,
+            self.at + 2 * b,
+            self.room(b),
+            self.cap,
+            self.alive,
+            events,
+        )
+    }
+
+    fn scan(
+        &self,
+        h: &[u64],
+        b: usize,
+        events: usize,
+        axis: &[u64],
+        sig: u64,
+        after: usize,
+        budget: Budget,
+    ) -> Result<Scan, Corrupt> {
+        let len = h[self.at + 2 * b] as usize;
+        if self.cap < len {
+            return Err(Corrupt);
+        }
+        let base = self.room(b);
+        lists::scalar::scan(
+            h, base, len, self.sigs, self.axes, self.l, events, axis, sig, b, after, budget,
+        )
+    }
 }
 
 // ---- sliced
 
-// Appends the event `id` with the axis (x, z) to the list of each of its qubits.
-pub fn push_sliced(
-    h: &mut [u64],
-    at: usize,
-    base: usize,
-    cap: usize,
-    n: usize,
-    id: u64,
-    x: u64,
-    z: u64,
-) -> Result<(), Corrupt>
-    requires { SlicedRooms h.old at base cap n × (x < 2 ^ n) × (z < 2 ^ n) }
-    ensures long { length h.new ≡ length h.old }
-    ensures done { (ms : ℕ → List Entry) (d : ℕ → ℕ) → Sliceds h.old at base cap n ms d → ((b : ℕ) → b < n → has (bit_or x z) b ≡ 1 → length (ms b) < cap) → IsOk result × SlicedsTo h.old at base cap n (bit_or x z) (chosen (bit_or x z) (λ b. pushed (fresh id x z) (ms b)) ms) d h.new }
-{
-    let mut w = x | z;
-    if w == 0 {
-        return Ok(());
-    }
-    let size = cap + (cap + 63) / 64 * (2 * n) + (cap + 63) / 64;
-    while w != 0 {
-        let b = lowest(w) as usize;
-        sliced::sliced::push(h, at + 2 * b, base + b * size, cap, n, id, x, z)?;
-        w = rest(w);
-    }
-    Ok(())
+// n sliced lists, those of the qubits; an axis is two words.
+#[derive(Clone, Copy, Debug, PartialEq, Eq)]
+pub struct SlicedLists {
+    pub at: usize,
+    pub base: usize,
+    pub cap: usize,
+    pub n: usize,
+    pub axes: usize,
+    pub alive: usize,
 }
 
-// The entry of event `id` is dead in each list of sig.
-pub fn kill_sliced(
-    h: &mut [u64],
-    at: usize,
-    base: usize,
-    cap: usize,
-    n: usize,
-    sig: u64,
-    id: u64,
-    alive: usize,
-    axes: usize,
-    events: usize,
-) -> Result<(), Corrupt>
-    requires { SlicedRooms h.old at base cap n × (sig < 2 ^ n) × (alive + words events ≤ at) × (axes + 2 * events ≤ at) }
-    ensures long { length h.new ≡ length h.old }
-    ensures done { (ms : ℕ → List Entry) (d pos : ℕ → ℕ) → Sliceds h.old at base cap n ms d → ((b : ℕ) → b < n → has sig b ≡ 1 → (d b < length (ms b)) × RisingIds (ms b) × Source h.old n axes events (ms b) × (pos b < length (ms b)) × ((entry (ms b) (pos b)).id ≡ id)) → IsOk result × SlicedsTo h.old at base cap n sig (chosen sig (λ b. killed_at h.old alive (d b) (pos b) (ms b)) ms) (chosen sig (λ b. still 2 (d b + 1) (length (ms b))) d) h.new }
-{
-    let mut w = sig;
-    if w == 0 {
-        return Ok(());
+impl SlicedLists {
+    // Where the room of list b begins.
+    fn room(&self, b: usize) -> usize
+        requires { (self.now.n ≤ 32) × (b < self.now.n) × (self.now.base + self.now.n * sliced_room self.now.cap self.now.n < 2 ^ 64) }
+        ensures { result ≡ self.now.base + b * sliced_room self.now.cap self.now.n }
+    {
+        let blocks = (self.cap + 63) / 64;
+        self.base + b * (self.cap + blocks * (2 * self.n) + blocks)
     }
-    let size = cap + (cap + 63) / 64 * (2 * n) + (cap + 63) / 64;
-    while w != 0 {
-        let b = lowest(w) as usize;
+}
+
+impl Lists for SlicedLists {
+    ghost has_list = { λ s b. b < s.n };
+
+    ghost can_push = { λ s h axis. SlicedRooms h s.at s.base s.cap s.n × TwoWords s.n axis };
+
+    ghost can_kill = { λ s h events. SlicedRooms h s.at s.base s.cap s.n × (s.alive + words events ≤ s.at) × (s.axes + 2 * events ≤ s.at) };
+
+    ghost can_scan = { λ s h events axis. SlicedRooms h s.at s.base s.cap s.n × TwoWords s.n axis };
+
+    ghost pushes = { λ s b id axis h g r. SlicedPushes s.at s.base s.cap s.n b id (slice_index axis 0) (slice_index axis 1) h g r };
+
+    ghost kills = { λ s b id events h g r. SlicedKills s.at s.base s.cap s.n s.alive s.axes events b id h g r };
+
+    ghost scans = { λ s b events axis sig after left h r. SlicedScans s.at s.base s.cap s.n b (slice_index axis 0) (slice_index axis 1) after left h r };
+
+    fn push(&self, h: &mut [u64], b: usize, id: u64, axis: &[u64]) -> Result<(), Corrupt> {
+        sliced::sliced::push(
+            h,
+            self.at + 2 * b,
+            self.room(b),
+            self.cap,
+            self.n,
+            id,
+            axis[0],
+            axis[1],
+        )
+    }
+
+    fn kill(&self, h: &mut [u64], b: usize, id: u64, events: usize) -> Result<(), Corrupt> {
         sliced::sliced::kill(
             h,
-            at + 2 * b,
-            base + b * size,
-            cap,
-            n,
+            self.at + 2 * b,
+            self.room(b),
+            self.cap,
+            self.n,
             id,
-            alive,
-            axes,
+            self.alive,
+            self.axes,
             events,
-        )?;
-        w = rest(w);
+        )
     }
-    Ok(())
-}
 
-// The blocks after the event `after` in the list of each qubit of the axis (ax, az).
-pub fn scan_sliced(
-    h: &[u64],
-    at: usize,
-    base: usize,
-    cap: usize,
-    n: usize,
-    after: usize,
-    ax: u64,
-    az: u64,
-    budget: Budget,
-) -> Result<Scan, Corrupt>
-    requires { SlicedRooms h.now at base cap n × (ax < 2 ^ n) × (az < 2 ^ n) }
-    ensures { (s : State) → AllSliced s h.now at base cap n → result ≡ Ok (scan_of (walk (phase2 s after ax az) budget.0)) }
-{
-    let mut w = ax | az;
-    if w == 0 {
-        return Ok(Scan::Clear(budget));
-    }
-    let size = cap + (cap + 63) / 64 * (2 * n) + (cap + 63) / 64;
-    let mut left = budget;
-    while w != 0 {
-        let b = lowest(w) as usize;
-        let len = h[at + 2 * b] as usize;
-        if cap < len {
+    fn scan(
+        &self,
+        h: &[u64],
+        b: usize,
+        events: usize,
+        axis: &[u64],
+        sig: u64,
+        after: usize,
+        budget: Budget,
+    ) -> Result<Scan, Corrupt> {
+        let len = h[self.at + 2 * b] as usize;
+        if self.cap < len {
             return Err(Corrupt);
         }
-        match sliced::sliced::scan(h, base + b * size, cap, n, len, after, ax, az, left) {
-            Scan::Clear(now) => left = now,
-            stopped => return Ok(stopped),
-        }
-        w = rest(w);
+        Ok(sliced::sliced::scan(
+            h,
+            self.room(b),
+            self.cap,
+            self.n,
+            len,
+            after,
+            axis[0],
+            axis[1],
+            budget,
+        ))
     }
-    Ok(Scan::Clear(left))
 }

@@ -1,11 +1,10 @@
 -- `history::forms::push_lists` meets its contract: the event goes to the end of each list that `model`'s `push` gives it to. Assumes nothing.
-use Prim.Native.Nat.{◌+◌, ◌*◌, ◌/◌, ◌≤◌}
-use lib.ListN.{length, get_or}
+use lib.ListN.{get_or}
+use lib.Bits.{bit_or}
 use Rattle.model.specs.Events as model
-use Rattle.model.specs.Events.{words}
-use Rattle.model.specs.Store.{list_count}
 use Rattle.history.specs.Sizes.{Sized}
-use Rattle.history.proofs.FormLaws.{as_Scalar, as_Sliced, at_Scalar, at_Sliced, scalar_rooms, sliced_long, sliced_rooms, or_left, or_right, Pushes, push_Scalars, push_Sliceds, push_taken}
+use Rattle.history.proofs.FormLaws.{as_Scalar, as_Sliced, at_Scalar, at_Sliced, shr_none, or_left, or_right, Pushes, push_Scalars, push_Sliceds, push_taken}
+use Rattle.history.proofs.ListPlaces.{scalar_room, scalar_push, sliced_there, sliced_takes, sliced_push}
 use native.Mathlib.Omega.{arith}
 use Rattle.history.proofs.forms.push_lists.Goals as goal
 use Rattle.history.proofs.forms.push_lists.Goals.{In-Scalar, In-Sliced}
@@ -16,12 +15,10 @@ scalar c = as_Scalar c.args.form c.args.n c.args.cap c.args.l c.args.h.now c.in-
 sliced : (c : In-Sliced) → let a = c.args in Sized model.sliced a.n a.cap a.l a.h.now
 sliced c = as_Sliced c.args.form c.args.n c.args.cap c.args.l c.args.h.now c.in-Sliced.is c.requires.0
 
-sliced-fits : (c : In-Sliced) → let a = c.args in 2 + 6 * a.cap + a.cap * (2 * a.l) + (a.cap + 63) / 64 + 2 * a.n ≤ length a.h.now
-sliced-fits c = let a = c.args in omega (arith, sliced_long a.n a.cap a.l a.h.now (sliced c))
-
-pub push_scalar-requires : goal.push_scalar-requires
-unfolding words list_count
-push_scalar-requires c = let a = c.args in scalar_rooms a.n a.cap a.l a.h.now (scalar (goal.at.push_scalar-requires c).In-Scalar)
+pub push-requires-clause-room : goal.push-requires-clause-room
+push-requires-clause-room c =
+    let a = c.args in
+    scalar_room a.n a.cap a.l a.h.now (scalar (goal.at.push-requires-clause-room c).In-Scalar) c.scalar_lists-lists.result c.scalar_lists-lists.ensures
 
 pub bounds-axis-0 : goal.bounds-axis-0
 bounds-axis-0 c = omega (arith, (sliced (goal.at.bounds-axis-0 c).In-Sliced).narrow.1)
@@ -29,36 +26,49 @@ bounds-axis-0 c = omega (arith, (sliced (goal.at.bounds-axis-0 c).In-Sliced).nar
 pub bounds-axis-1 : goal.bounds-axis-1
 bounds-axis-1 c = omega (arith, (sliced (goal.at.bounds-axis-1 c).In-Sliced).narrow.1)
 
-pub overflow_shr-x : goal.overflow_shr-x
-overflow_shr-x c = omega (arith, (sliced (goal.at.overflow_shr-x c).In-Sliced).narrow.0)
+pub overflow_shr-set : goal.overflow_shr-set
+overflow_shr-set c = omega (arith, (sliced (goal.at.overflow_shr-set c).In-Sliced).narrow.0)
 
-pub returns-then-x-z-ne0-clause-done : goal.returns-then-x-z-ne0-clause-done
-returns-then-x-z-ne0-clause-done c =
+pub returns-then-set-n-ne0-clause-done : goal.returns-then-set-n-ne0-clause-done
+returns-then-set-n-ne0-clause-done c =
     let a = c.args in
-    λ m e held count room new. absurd (push_taken a.n a.l a.axis.now a.sig e (sliced (goal.at.returns-then-x-z-ne0-clause-done c).In-Sliced).narrow.1 c.requires.1 c.if-x-z-ne0.true new)
+    λ m e held count room new. absurd (push_taken a.n a.l a.axis.now a.sig e (sliced (goal.at.returns-then-set-n-ne0-clause-done c).In-Sliced).narrow.1 c.requires.1 c.if-set-n-ne0.true new)
 
-pub overflow_mul-n : goal.overflow_mul-n
-overflow_mul-n c = omega (arith, sliced-fits (goal.at.overflow_mul-n c).In-Sliced)
+pub sliced_lists-lists-requires : goal.sliced_lists-lists-requires
+sliced_lists-lists-requires c =
+    let z = sliced (goal.at.sliced_lists-lists-requires c).In-Sliced in
+    (z.few, z.planes, z.narrow.0)
 
-pub overflow_add-counts-in-Sliced : goal.overflow_add-counts-in-Sliced
-overflow_add-counts-in-Sliced c = omega (arith, sliced-fits (goal.at.overflow_add-counts-in-Sliced c).In-Sliced)
-
-pub push_sliced-requires : goal.push_sliced-requires
-unfolding words list_count
-push_sliced-requires c =
+pub push-requires-in-Sliced-clause-room : goal.push-requires-in-Sliced-clause-room
+push-requires-in-Sliced-clause-room c =
     let a = c.args in
-    (sliced_rooms a.n a.cap a.l a.h.now (sliced (goal.at.push_sliced-requires c).In-Sliced), or_left a.n (get_or a.axis.now 0 0) (get_or a.axis.now 1 0) c.if-x-z-ne0.false, or_right a.n (get_or a.axis.now 0 0) (get_or a.axis.now 1 0) c.if-x-z-ne0.false)
+    let x = get_or a.axis.now 0 0 in
+    let z = get_or a.axis.now 1 0 in
+    sliced_takes a.n a.cap a.l a.h.now (sliced (goal.at.push-requires-in-Sliced-clause-room c).In-Sliced) c.sliced_lists-lists.result c.sliced_lists-lists.ensures
+    a.axis.now c.requires.1 (or_left a.n x z c.if-set-n-ne0.false) (or_right a.n x z c.if-set-n-ne0.false)
+
+pub push-requires-in-Sliced-clause-there : goal.push-requires-in-Sliced-clause-there
+push-requires-in-Sliced-clause-there c =
+    let a = c.args in
+    let set = bit_or (get_or a.axis.now 0 0) (get_or a.axis.now 1 0) in
+    sliced_there a.n a.cap a.l a.h.now (sliced (goal.at.push-requires-in-Sliced-clause-there c).In-Sliced) c.sliced_lists-lists.result c.sliced_lists-lists.ensures
+    set (shr_none a.n set c.if-set-n-ne0.false)
 
 pub returns-in-Scalar-clause-done : goal.returns-in-Scalar-clause-done
-unfolding words list_count
 returns-in-Scalar-clause-done c =
     let a = c.args in
-    at_Scalar (λ (f : model.Form). Pushes f a.n a.cap a.l a.h.now c.push_scalar.new.h a.axis.now a.id a.sig c.push_scalar.result) a.form c.in-Scalar.is
-    (push_Scalars a.n a.cap a.l a.h.now c.push_scalar.new.h a.axis.now a.id a.sig c.push_scalar.result c.push_scalar.ensures.done)
+    let z = scalar (goal.at.returns-in-Scalar-clause-done c).In-Scalar in
+    at_Scalar (λ (f : model.Form). Pushes f a.n a.cap a.l a.h.now c.push.new.h a.axis.now a.id a.sig c.push.result) a.form c.in-Scalar.is
+    (push_Scalars a.n a.cap a.l a.h.now c.push.new.h a.axis.now a.id a.sig c.push.result
+    (scalar_push a.n a.cap a.l a.h.now z c.scalar_lists-lists.result c.scalar_lists-lists.ensures a.sig c.push.new.h c.push.result a.id c.push.ensures.done))
 
-pub returns-else-x-z-ne0-clause-done : goal.returns-else-x-z-ne0-clause-done
-unfolding words list_count
-returns-else-x-z-ne0-clause-done c =
+pub returns-else-set-n-ne0-clause-done : goal.returns-else-set-n-ne0-clause-done
+returns-else-set-n-ne0-clause-done c =
     let a = c.args in
-    at_Sliced (λ (f : model.Form). Pushes f a.n a.cap a.l a.h.now c.push_sliced.new.h a.axis.now a.id a.sig c.push_sliced.result) a.form c.in-Sliced.is
-    (push_Sliceds a.n a.cap a.l a.h.now c.push_sliced.new.h a.axis.now a.id a.sig c.push_sliced.result (sliced (goal.at.returns-else-x-z-ne0-clause-done c).In-Sliced).narrow.1 c.requires.1 c.push_sliced.ensures.done)
+    let x = get_or a.axis.now 0 0 in
+    let y = get_or a.axis.now 1 0 in
+    let p = c.push-in-Sliced in
+    let z = sliced (goal.at.returns-else-set-n-ne0-clause-done c).In-Sliced in
+    at_Sliced (λ (f : model.Form). Pushes f a.n a.cap a.l a.h.now p.new.h a.axis.now a.id a.sig p.result) a.form c.in-Sliced.is
+    (push_Sliceds a.n a.cap a.l a.h.now p.new.h a.axis.now a.id a.sig p.result z.narrow.1 c.requires.1
+    (sliced_push a.n a.cap a.l a.h.now z c.sliced_lists-lists.result c.sliced_lists-lists.ensures (bit_or x y) (shr_none a.n (bit_or x y) c.if-set-n-ne0.false) p.new.h p.result a.id x y p.ensures.done))

@@ -1,76 +1,79 @@
 -- `history::forms::scan_lists` meets its contract: the lists that the words hold are such as a scan of their form asks for. Assumes nothing.
-use Rattle.model.specs.Events.{words}
-use Rattle.sliced.proofs.RebuildLaws.{small_x, small_z}
+use mathlib.Core.Path.{refl}
 use lib.ListN.{get_or}
-use Rattle.model.specs.Store.{list_count}
-use Rattle.history.proofs.FormLaws.{as_Scalar, as_Sliced, scalar_rooms, sliced_rooms}
-use Rattle.history.proofs.ScanForm.{lists_inside, counts_inside, axes_inside, held_Scalar, held_Sliced, all_scannable, all_sliced, narrow_small, narrow_scan}
+use lib.Bits.{bit_or}
+use Rattle.model.specs.Events as model
+use Rattle.history.specs.Sizes.{Sized}
+use Rattle.history.proofs.FormLaws.{as_Scalar, as_Sliced, shr_none, or_left, or_right}
+use Rattle.history.proofs.ScanForm.{held_Scalar, held_Sliced, all_scannable, all_sliced, narrow_small, narrow_scan}
+use Rattle.history.proofs.ListPlaces.{scalar_reads, scalar_scan, sliced_there, sliced_takes, sliced_scan}
 use native.Mathlib.Omega.{arith}
 use Rattle.history.proofs.forms.scan_lists.Goals as goal
+use Rattle.history.proofs.forms.scan_lists.Goals.{In-Scalar, In-Sliced}
 
-pub scan_scalar-requires : goal.scan_scalar-requires
-unfolding words list_count
-scan_scalar-requires c =
+scalar : (c : In-Scalar) → let a = c.args in Sized model.scalar a.n a.cap a.l a.h.now
+scalar c = as_Scalar c.args.form c.args.n c.args.cap c.args.l c.args.h.now c.in-Scalar.is c.requires.0
+
+sliced : (c : In-Sliced) → let a = c.args in Sized model.sliced a.n a.cap a.l a.h.now
+sliced c = as_Sliced c.args.form c.args.n c.args.cap c.args.l c.args.h.now c.in-Sliced.is c.requires.0
+
+pub scan-requires-clause-room : goal.scan-requires-clause-room
+scan-requires-clause-room c =
     let a = c.args in
-    let z = as_Scalar a.form a.n a.cap a.l a.h.now c.in-Scalar.is c.requires.0 in
-    (scalar_rooms a.n a.cap a.l a.h.now z, omega (arith, counts_inside _ a.n a.cap a.l a.h.now z), axes_inside _ a.n a.cap a.l a.h.now z a.events c.requires.2, c.requires.1)
+    scalar_reads a.n a.cap a.l a.h.now (scalar (goal.at.scan-requires-clause-room c).In-Scalar) c.scalar_lists-lists.result c.scalar_lists-lists.ensures a.events a.axis.now c.requires.2 c.requires.1
 
 pub bounds-axis-0 : goal.bounds-axis-0
-bounds-axis-0 c =
-    let a = c.args in
-    let z = as_Sliced a.form a.n a.cap a.l a.h.now c.in-Sliced.is c.requires.0 in
-    omega (arith, z.narrow.1)
+bounds-axis-0 c = omega (arith, (sliced (goal.at.bounds-axis-0 c).In-Sliced).narrow.1)
 
 pub bounds-axis-1 : goal.bounds-axis-1
-bounds-axis-1 c =
-    let a = c.args in
-    let z = as_Sliced a.form a.n a.cap a.l a.h.now c.in-Sliced.is c.requires.0 in
-    omega (arith, z.narrow.1)
+bounds-axis-1 c = omega (arith, (sliced (goal.at.bounds-axis-1 c).In-Sliced).narrow.1)
 
-pub overflow_shr-ax : goal.overflow_shr-ax
-overflow_shr-ax c =
-    let a = c.args in
-    let z = as_Sliced a.form a.n a.cap a.l a.h.now c.in-Sliced.is c.requires.0 in
-    omega (arith, z.narrow.0)
+pub overflow_shr-set : goal.overflow_shr-set
+overflow_shr-set c = omega (arith, (sliced (goal.at.overflow_shr-set c).In-Sliced).narrow.0)
 
-pub returns-then-ax-az-ne0 : goal.returns-then-ax-az-ne0
-returns-then-ax-az-ne0 c =
+pub returns-then-set-n-ne0 : goal.returns-then-set-n-ne0
+returns-then-set-n-ne0 c =
     let a = c.args in
-    let z = as_Sliced a.form a.n a.cap a.l a.h.now c.in-Sliced.is c.requires.0 in
+    let z = sliced (goal.at.returns-then-set-n-ne0 c).In-Sliced in
     λ m held scanned x_small z_small.
-    absurd (c.if-ax-az-ne0.true (narrow_small a.axis.now a.l c.requires.1 z.narrow.1 a.n x_small z_small))
+    absurd (c.if-set-n-ne0.true (narrow_small a.axis.now a.l c.requires.1 z.narrow.1 a.n x_small z_small))
 
-pub overflow_mul-n : goal.overflow_mul-n
-overflow_mul-n c =
-    let a = c.args in
-    let z = as_Sliced a.form a.n a.cap a.l a.h.now c.in-Sliced.is c.requires.0 in
-    omega (arith, z.narrow.0)
+pub sliced_lists-lists-requires : goal.sliced_lists-lists-requires
+sliced_lists-lists-requires c =
+    let z = sliced (goal.at.sliced_lists-lists-requires c).In-Sliced in
+    (z.few, z.planes, z.narrow.0)
 
-pub overflow_add-counts-in-Sliced : goal.overflow_add-counts-in-Sliced
-unfolding words list_count
-overflow_add-counts-in-Sliced c =
+pub scan-requires-in-Sliced-clause-room : goal.scan-requires-in-Sliced-clause-room
+scan-requires-in-Sliced-clause-room c =
     let a = c.args in
-    let z = as_Sliced a.form a.n a.cap a.l a.h.now c.in-Sliced.is c.requires.0 in
-    omega (arith, lists_inside _ a.n a.cap a.l a.h.now z)
+    let x = get_or a.axis.now 0 0 in
+    let z = get_or a.axis.now 1 0 in
+    sliced_takes a.n a.cap a.l a.h.now (sliced (goal.at.scan-requires-in-Sliced-clause-room c).In-Sliced) c.sliced_lists-lists.result c.sliced_lists-lists.ensures
+    a.axis.now c.requires.1 (or_left a.n x z c.if-set-n-ne0.false) (or_right a.n x z c.if-set-n-ne0.false) a.h.now refl
 
-pub scan_sliced-requires : goal.scan_sliced-requires
-unfolding words list_count
-scan_sliced-requires c =
+pub scan-requires-in-Sliced-clause-there : goal.scan-requires-in-Sliced-clause-there
+scan-requires-in-Sliced-clause-there c =
     let a = c.args in
-    let z = as_Sliced a.form a.n a.cap a.l a.h.now c.in-Sliced.is c.requires.0 in
-    (sliced_rooms a.n a.cap a.l a.h.now z, small_x (get_or a.axis.now 0 0) (get_or a.axis.now 1 0) a.n c.if-ax-az-ne0.false, small_z (get_or a.axis.now 0 0) (get_or a.axis.now 1 0) a.n c.if-ax-az-ne0.false)
+    let set = bit_or (get_or a.axis.now 0 0) (get_or a.axis.now 1 0) in
+    sliced_there a.n a.cap a.l a.h.now (sliced (goal.at.scan-requires-in-Sliced-clause-there c).In-Sliced) c.sliced_lists-lists.result c.sliced_lists-lists.ensures
+    set (shr_none a.n set c.if-set-n-ne0.false)
 
 pub returns-in-Scalar : goal.returns-in-Scalar
-unfolding words
 returns-in-Scalar c =
     let a = c.args in
+    let s = c.scalar_lists-lists in
     λ m held scanned x_small z_small.
-    c.scan_scalar.ensures m (all_scannable a.n a.cap a.l a.events m a.h.now (held_Scalar a.n a.cap a.l a.h.now a.form m c.in-Scalar.is held) scanned) c.signature-sig.ensures
+    scalar_scan a.n a.cap a.l a.h.now (scalar (goal.at.returns-in-Scalar c).In-Scalar) s.result s.ensures a.events a.axis.now c.signature.result a.after a.budget c.scan.result c.scan.ensures
+    m (all_scannable a.n a.cap a.l a.events m a.h.now (held_Scalar a.n a.cap a.l a.h.now a.form m c.in-Scalar.is held) scanned) c.signature.ensures
 
-pub returns-else-ax-az-ne0 : goal.returns-else-ax-az-ne0
-unfolding words
-returns-else-ax-az-ne0 c =
+pub returns-else-set-n-ne0 : goal.returns-else-set-n-ne0
+returns-else-set-n-ne0 c =
     let a = c.args in
-    let z = as_Sliced a.form a.n a.cap a.l a.h.now c.in-Sliced.is c.requires.0 in
+    let x = get_or a.axis.now 0 0 in
+    let y = get_or a.axis.now 1 0 in
+    let s = c.sliced_lists-lists in
+    let z = sliced (goal.at.returns-else-set-n-ne0 c).In-Sliced in
     λ m held scanned x_small z_small.
-    narrow_scan a.axis.now a.l c.requires.1 z.narrow.1 m a.after a.budget.0 c.scan_sliced.result (c.scan_sliced.ensures m (all_sliced a.n a.cap a.l m a.h.now (held_Sliced a.n a.cap a.l a.h.now a.form m c.in-Sliced.is held)))
+    narrow_scan a.axis.now a.l c.requires.1 z.narrow.1 m a.after a.budget.0 c.scan-in-Sliced.result
+    (sliced_scan a.n a.cap a.l a.h.now z s.result s.ensures x y a.after a.budget c.scan-in-Sliced.result (or_left a.n x y c.if-set-n-ne0.false) (or_right a.n x y c.if-set-n-ne0.false)
+    c.scan-in-Sliced.ensures m (all_sliced a.n a.cap a.l m a.h.now (held_Sliced a.n a.cap a.l a.h.now a.form m c.in-Sliced.is held)))

@@ -1,0 +1,25 @@
+-- `support::families::kill` meets its contract: the calls done and those left are the whole. Assumes nothing.
+use mathlib.Core.Path.{refl, ap, ◌∙◌}
+use Rattle.std.specs.Prelude.{is_ok, is_err}
+use Rattle.pauli.specs.declared.bits.SetBits.{SetBits}
+use Rattle.support.proofs.RunLaws.{Going-none, Going-more, Going-stops, Going-all}
+use Rattle.support.proofs.families.kill.Goals as goal
+
+pub loop-b-init : goal.loop-b-init
+loop-b-init g c = (refl, Going-none _ _ _ _ (ap (λ (s : SetBits). s.left) c.into_iter-b-iterator.ensures.into_iter_gives ∙ c.bits-b-items.ensures))
+
+pub kill-requires : goal.kill-requires
+kill-requires g c = (c.requires.room _ c.loop-b.invariant.0, c.requires.there _ c.in-Some.ensures.steps.0.place (c.loop-b.invariant.1.within _ c.in-Some.ensures.steps.0.one))
+
+pub loop-b-preserved : goal.loop-b-preserved
+loop-b-preserved g c = (
+  c.kill.ensures.long ∙ c.loop-b.invariant.0,
+  Going-more _ _ _ _ _ _ _ c.loop-b.invariant.1 c.in-Some.ensures.steps.0 _ _ c.in-Some.ensures.steps.1 c.kill.ensures.done (ap is_ok c.in_ok-kill.was),
+)
+
+pub returns-in_err-kill-clause-done : goal.returns-in_err-kill-clause-done
+returns-in_err-kill-clause-done g c =
+    Going-stops _ _ _ _ _ _ _ c.loop-b.invariant.1 c.in-Some.ensures.steps.0 _ _ c.kill.ensures.done (ap is_err c.in_err-kill.was) c.from_residual.ensures.0
+
+pub returns-clause-done : goal.returns-clause-done
+returns-clause-done g c = Going-all _ _ _ _ _ c.loop-b.invariant.1 c.in-None.ensures.steps.0
