@@ -69,16 +69,14 @@ fn joined(s: &[u64], at: usize, by: usize, l: usize, out: &mut [u64]) -> u64
     ensures done { Both s.now at by (2 * l) out.new }
 {
     let mut acc: u64 = 0;
-    let mut i = 0;
-    while i < l {
+    for i in 0..l {
         let x = s[by + i];
         let z = s[at + l + i];
         acc ^= z & x;
         out[1 + i] = s[at + i] ^ x;
         out[1 + l + i] = z ^ s[by + l + i];
-        i += 1;
     }
-    (u64::count_ones(acc) % 2) as u64
+    u64::from(acc.count_ones() % 2)
 }
 
 // The axis y of qubit q, x[q] times z[q] with phase + 1, written to `out`, whatever it held. It fails where a phase met is none.

@@ -21,15 +21,13 @@ fn begin(s: &mut [u64], n: usize, l: usize)
     requires { Sized (2 * n) l s.old × (n ≤ 64 * l) }
     ensures { (length s.new ≡ length s.old) × Begun n l s.new }
 {
-    let mut q = 0;
-    while q < n {
+    for q in 0..n {
         let w = 2 * l + 1;
         let g = 2 * q;
         let j = q / 64;
         let r = q % 64;
         single(s, g * w, l, j, r);
         single(s, (g + 1) * w, l, l + j, r);
-        q += 1;
     }
 }
 

@@ -1,6 +1,7 @@
 -- Laws of axes: a stored one as words and as sets. Assumes nothing.
+use Rattle.std.proofs.Common.{IsTrue, ◌↔◌}
 use mathlib.Core.Path.{◌≡◌, refl, sym, ap, ap₂, ◌∙◌}
-use mathlib.Core.Bool.{Bool, true, false, ◌&&◌}
+use mathlib.Core.Bool.{Bool, true, false, ◌&&◌, true≢false}
 use mathlib.Core.List.{List}
 use Prim.Native.Nat.{ℕ, ◌+◌, ◌-◌, ◌*◌, ◌≤◌, ◌<◌}
 use native.Mathlib.Nat.{zero-add, suc-mul, mul-le-mul_right}
@@ -13,7 +14,7 @@ use Rattle.model.specs.Pauli.{Pauli}
 use Rattle.model.specs.Events.{Event}
 use Rattle.model.specs.Search.{same_axis}
 use Rattle.model.proofs.Members.{and_both}
-use Rattle.pauli.specs.Rows.{value_at, of_row, Decides}
+use Rattle.pauli.specs.Rows.{value_at, of_row}
 use Rattle.pauli.proofs.Words.{x_plane, z_plane}
 use Rattle.pauli.proofs.RowLaws.{value_part, value_rest, value_same}
 use Rattle.history.specs.Words.{axis_place, alive_place}
@@ -61,14 +62,14 @@ module _ (h axis : List ℕ) (a l : ℕ) (e : Event) (room : a + 2 * l ≤ lengt
   row_of x z = ap₂ (λ (u v : ℕ). record { phase = 0; x = u; z = v }) x z
 
   -- the code's comparison is that of the sets
-  pub axis-Decides : (r : Bool) → Decides r (of_row 0 (take (a + 2 * l - a) (drop a h)) ≡ of_row 0 axis) → same_axis (of_row 0 axis).x (of_row 0 axis).z e ≡ r
+  pub axis_compared : (r : Bool) → (IsTrue r ↔ (of_row 0 (take (a + 2 * l - a) (drop a h)) ≡ of_row 0 axis)) → same_axis (of_row 0 axis).x (of_row 0 axis).z e ≡ r
   unfolding same_axis
-  axis-Decides true d =
-      simp (eq-eqb _ _ (ap (λ (p : Pauli). p.x) (sym d) ∙ part_x ∙ x_set), eq-eqb _ _ (ap (λ (p : Pauli). p.z) (sym d) ∙ part_z ∙ z_set))
-  axis-Decides false d = go (eqb (of_row 0 axis).x e.x && eqb (of_row 0 axis).z e.z) refl
+  axis_compared true d =
+      simp (eq-eqb _ _ (ap (λ (p : Pauli). p.x) (sym (d.0 refl)) ∙ part_x ∙ x_set), eq-eqb _ _ (ap (λ (p : Pauli). p.z) (sym (d.0 refl)) ∙ part_z ∙ z_set))
+  axis_compared false d = go (eqb (of_row 0 axis).x e.x && eqb (of_row 0 axis).z e.z) refl
     where
       go : (b : Bool) → (eqb (of_row 0 axis).x e.x && eqb (of_row 0 axis).z e.z) ≡ b → (eqb (of_row 0 axis).x e.x && eqb (of_row 0 axis).z e.z) ≡ false
       go false q = q
       go true q =
           let both = and_both (eqb (of_row 0 axis).x e.x) (eqb (of_row 0 axis).z e.z) q in
-          absurd (d (row_of (part_x ∙ x_set ∙ sym (eqb-true _ _ both.0)) (part_z ∙ z_set ∙ sym (eqb-true _ _ both.1))))
+          absurd (true≢false (sym (d.1 (row_of (part_x ∙ x_set ∙ sym (eqb-true _ _ both.0)) (part_z ∙ z_set ∙ sym (eqb-true _ _ both.1))))))

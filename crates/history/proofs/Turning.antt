@@ -1,4 +1,5 @@
 -- Laws of a turn of phase 1 on words that hold a state. Assumes nothing.
+use Rattle.std.proofs.Common.{IsTrue, ◌↔◌}
 use mathlib.Core.Path.{◌≡◌, refl, sym, ap, ◌∙◌, subst}
 use mathlib.Core.Bool.{Bool, true, false}
 use mathlib.Core.List.{List}
@@ -9,7 +10,7 @@ use Rattle.model.specs.Sketch.{Label}
 use Rattle.model.specs.Events.{Form, Body, rotation, State, event_at}
 use Rattle.model.specs.Search.{Work, Walk, walk, candidate, same_axis, phase1}
 use Rattle.model.proofs.Good.{live_there}
-use Rattle.pauli.specs.Rows.{of_row, Decides}
+use Rattle.pauli.specs.Rows.{of_row}
 use Rattle.lists.specs.Scans.{steps}
 use Rattle.lists.specs.declared.budget.Budget.{Budget}
 use Rattle.std.proofs.Common.{Result, IsOkAnd}
@@ -22,7 +23,7 @@ use Rattle.history.specs.Newest.{bucket_of, link_place, newest}
 use Rattle.history.specs.Words.{label_place, axis_place, LabelAt, in_bucket, Holds}
 use Rattle.history.specs.Phases.{candidate_of, label_of, older, Onward, Met, Turn}
 use Rattle.history.proofs.ChainLaws.{newest-le, newest_hit}
-use Rattle.history.proofs.AxisWords.{part_long, axis-Decides}
+use Rattle.history.proofs.AxisWords.{part_long, axis_compared}
 use Rattle.history.proofs.PhaseOne.{Rotates, rotates, label_same, high_differs, low_differs, older_all, older_none, older-cleared, older_other, older_skip, this_dry, this_stops, this_past}
 
 -- a budget is its number of steps
@@ -59,11 +60,11 @@ module _ (f : Form) (n : ℕ) (m : State) (cap l events cleared high low x z cur
   -- the code's comparison of the axis in the words with another
   pub met_compared : (axis : List ℕ) → length axis ≡ 2 * l → axis_place cap + i * (2 * l) + 2 * l ≤ length h → (r : Bool)
       → (length (take (axis_place cap + i * (2 * l) + 2 * l - (axis_place cap + i * (2 * l))) (drop (axis_place cap + i * (2 * l)) h)) ≡ length axis
-      → Decides r (of_row 0 (take (axis_place cap + i * (2 * l) + 2 * l - (axis_place cap + i * (2 * l))) (drop (axis_place cap + i * (2 * l)) h)) ≡ of_row 0 axis))
+      → IsTrue r ↔ (of_row 0 (take (axis_place cap + i * (2 * l) + 2 * l - (axis_place cap + i * (2 * l))) (drop (axis_place cap + i * (2 * l)) h)) ≡ of_row 0 axis))
       → same_axis (of_row 0 axis).x (of_row 0 axis).z (event_at m.events i) ≡ r
   met_compared axis long room r d =
       let there : i < length m.events = omega (arith, met_there, met.count) in
-      axis-Decides h axis (axis_place cap + i * (2 * l)) l (event_at m.events i) room (met.holds.axed.xs i there) (met.holds.axed.zs i there) r
+      axis_compared h axis (axis_place cap + i * (2 * l)) l (event_at m.events i) room (met.holds.axed.xs i there) (met.holds.axed.zs i there) r
       (d (part_long (axis_place cap + i * (2 * l)) (2 * l) h room ∙ sym long))
 
   -- ---- what is left after the event

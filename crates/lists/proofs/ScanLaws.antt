@@ -1,5 +1,6 @@
 -- The scan of a scalar list: what the words of an entry say, the first bit that an event shares with the axis, and the walk from an entry on.
 -- Assumes nothing.
+use Rattle.std.proofs.Common.{IsTrue, ◌↔◌}
 use mathlib.Core.Path.{◌≡◌, refl, sym, ap, ap₂, ◌∙◌, subst}
 use mathlib.Core.Logic.{◌⊎◌, ⊎_elim}
 use mathlib.Core.Bool.{Bool, true, false, cond, not, ◌&&◌, true≢false}
@@ -21,7 +22,7 @@ use Rattle.model.specs.Events.{Event, State, keep, some, touches, event_at, live
 use Rattle.model.specs.Search.{done, stopped, dry, walk, against, list_at, shared_below, entry, scalar_list}
 use Rattle.model.proofs.Digits.{has-lt, has_zero, has-pow, has-pow_other}
 use Rattle.model.proofs.Members.{clash, and_both, both_and, keep_yes, keep_no, Mem-some, some-Mem, Mem-from, from-Mem}
-use Rattle.pauli.specs.Rows.{value, value_at, x_of, z_of, of_row, Decides, touched, signature}
+use Rattle.pauli.specs.Rows.{value, value_at, x_of, z_of, of_row, touched, signature}
 use Rattle.pauli.proofs.Digits.{three, has_past, has_ext, has_min, has-add_same, has-add_other, has_not}
 use Rattle.pauli.proofs.RowLaws.{value_part, value_same}
 use Rattle.pauli.proofs.Walk.{same?}
@@ -80,18 +81,18 @@ module _ (h : List ℕ) (sigs axes l events : ℕ) (axis : List ℕ) (wanted thi
   Meets-apart g d = record { unknown = λ f. absurd (omega arith); apart = λ f e. refl; hit = λ f e. absurd (d e); past = λ f e a. refl }
 
   pub Meets-asked : (r : Bool) → id < events → axes + events * (2 * l) ≤ length h → bit_and (get_or h (sigs + id) 0) wanted ≡ this
-      → Decides r (anti (of_row 0 (take (axes + id * (2 * l) + 2 * l - (axes + id * (2 * l))) (drop (axes + id * (2 * l)) h))) (of_row 0 axis) ≡ 1)
+      → (IsTrue r ↔ (anti (of_row 0 (take (axes + id * (2 * l) + 2 * l - (axes + id * (2 * l))) (drop (axes + id * (2 * l)) h))) (of_row 0 axis) ≡ 1))
       → Meets h sigs axes l events axis wanted this id (Ok r)
   Meets-asked true g f e d = record {
     unknown = λ u. absurd (omega arith);
     apart = λ _ a. absurd (a e);
     hit = λ _ _ _. refl;
-    past = λ _ _ b. let q : ◌≡◌ {A = ℕ} 0 1 = sym b ∙ sym (apart_is g f) ∙ d in absurd (omega arith);
+    past = λ _ _ b. let q : ◌≡◌ {A = ℕ} 0 1 = sym b ∙ sym (apart_is g f) ∙ d.0 refl in absurd (omega arith);
   }
   Meets-asked false g f e d = record {
     unknown = λ u. absurd (omega arith);
     apart = λ _ _. refl;
-    hit = λ _ _ b. absurd (d (apart_is g f ∙ b));
+    hit = λ _ _ b. absurd (true≢false (sym (d.1 (apart_is g f ∙ b))));
     past = λ _ _ _. refl;
   }
 

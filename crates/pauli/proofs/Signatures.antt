@@ -17,7 +17,8 @@ use borrow.Author.Tests.{ne_eqb}
 use lib.Dec.{eqb}
 use Rattle.model.specs.Events.{touches}
 use Rattle.pauli.specs.Rows.{value, touched, signature, blocks, left}
-use Rattle.pauli.proofs.Digits.{low}
+use Rattle.pauli.specs.Digits.{Lowest, Took}
+use Rattle.pauli.proofs.Digits.{low, Lowest-is, Lowest-same}
 
 -- ---- a set in cells of l qubits
 
@@ -288,3 +289,13 @@ pub blocks_step : (l u j w sig : ℕ) → j < l → 0 < w → w < 2 ^ 64
 blocks_step l u j w sig g p v =
     ap (bit_or sig) (blocks-cells l (left u j w) 64) ∙ left_step l u j w sig g p v
     ∙ ap (bit_or (bit_or sig (2 ^ ((64 * j + count_trailing_zeros 64 w) / l)))) (sym (blocks-cells l (left u j (bit_and w (w - 1))) 64))
+
+-- the same as a walk over the set digits has them: p is the lowest, v what is left
+pub blocks_took : (l u j w p v sig : ℕ) → j < l → w < 2 ^ 64 → Lowest w p → Took w p v
+    → bit_or sig (blocks l (left u j w) 64) ≡ bit_or (bit_or sig (2 ^ ((64 * j + p) / l))) (blocks l (left u j v) 64)
+blocks_took l u j w p v sig g h first took =
+    let pos : 0 < w = omega (arith, took.sum, pow_pos p) in
+    let place : count_trailing_zeros 64 w ≡ p = Lowest-same w (count_trailing_zeros 64 w) p (Lowest-is w pos h) first in
+    let others : bit_and w (w - 1) ≡ v = omega (arith, (low 64 w pos h).sum, took.sum, ap (λ (n : ℕ). 2 ^ n) place) in
+    blocks_step l u j w sig g pos h
+    ∙ ap₂ (λ (m n : ℕ). bit_or (bit_or sig (2 ^ ((64 * j + m) / l))) (blocks l (left u j n) 64)) place others

@@ -1,5 +1,6 @@
 -- Laws of words as sets: counts of common qubits word by word, and the parts of a slice. Assumes nothing.
 use mathlib.Core.Path.{◌≡◌, refl, sym, ap, ap₂, ◌∙◌}
+use mathlib.Core.Logic.{◌⊎◌, inl, inr}
 use mathlib.Core.List.{List, ◌∷◌}
 use Prim.Native.Nat.{ℕ, suc, ◌+◌, ◌-◌, ◌*◌, ◌/◌, ◌^◌, ◌≤◌, ◌<◌}
 use native.Mathlib.Nat.{le_of_eq}
@@ -8,6 +9,8 @@ use native.Mathlib.Omega.{arith}
 use lib.Bits.{bit_and, and_block, and_lt}
 use lib.ListN.{length, get_or, drop, take, length-drop}
 use lib.Seq.{drop-cons, drop-length, take_all, length-take-le}
+use Rattle.std.specs.Int.Bits.{and_zero_r}
+use Rattle.std.proofs.lemmas.List.{nil_from_length}
 use Rattle.model.specs.Pauli.{count}
 use Rattle.model.proofs.Counts.{count_zero, count_cat}
 use Rattle.pauli.specs.Rows.{value, x_of, z_of}
@@ -20,6 +23,16 @@ unfolding value
 and-cons v w vs ws hv hw =
     ap count (and_block 64 (value vs) (value ws) v w hv hw)
     ∙ count_cat 64 (bit_and (value vs) (value ws)) (bit_and v w) (and_lt 64 v w hv hw)
+
+-- the count of what two lists have in common, by their first words, and where one of them is empty
+pub meet-cons : (a b vs ws : List ℕ) (v w : ℕ) → a ≡ v ∷ vs → b ≡ w ∷ ws → v < 2 ^ 64 → w < 2 ^ 64
+    → count (bit_and (value a) (value b)) ≡ count (bit_and (value vs) (value ws)) + count (bit_and v w)
+meet-cons a b vs ws v w e f hv hw = ap₂ (λ (p q : List ℕ). count (bit_and (value p) (value q))) e f ∙ and-cons v w vs ws hv hw
+
+pub meet_empty : (a b : List ℕ) → (length a ≡ 0) ⊎ (length b ≡ 0) → count (bit_and (value a) (value b)) ≡ 0
+unfolding value
+meet_empty a b (inl e) = ap (λ (p : List ℕ). count (bit_and (value p) (value b))) (nil_from_length a e) ∙ count_zero
+meet_empty a b (inr e) = ap (λ (p : List ℕ). count (bit_and (value a) (value p))) (nil_from_length b e) ∙ ap count (and_zero_r (value a)) ∙ count_zero
 
 -- the count of what a and b have in common from the word i on
 pub common : List ℕ → List ℕ → ℕ → ℕ

@@ -1,5 +1,5 @@
 -- Words as sets of qubits and rows as words. What a row is, its sign and anticommutation are `model`'s. Assumes nothing.
-use Rattle.std.specs.Prelude.{◌≡◌, ◌⊎◌, Bool, true, false, cond, Option, Some, None, List, [], ◌∷◌, ℕ, zero, suc, ◌+◌, ◌*◌, ◌/◌, ◌^◌, ◌≤◌, ◌<◌, length, take, drop, get_or, ℤ, pos, negsuc}
+use Rattle.std.specs.Prelude.{◌≡◌, ◌⊎◌, cond, Option, Some, None, List, [], ◌∷◌, ℕ, zero, suc, ◌+◌, ◌*◌, ◌/◌, ◌^◌, ◌≤◌, ◌<◌, length, take, drop, get_or, ℤ, pos, negsuc}
 use Rattle.std.specs.Int.Bits.{bit_xor}
 use Rattle.model.specs.Pauli.{Pauli}
 use Rattle.model.specs.Events.{touches}
@@ -30,11 +30,6 @@ unfoldable pub of_row : (phase : ℕ) → List ℕ → Pauli
 of_row p row = record { phase = p; x = x_of row; z = z_of row }
 
 -- ---- answers
-
--- the answer r says whether P holds
-abbrev pub Decides : Bool → Type 0 → Type 0
-Decides true P = P
-Decides false P = P → ⊥
 
 -- `model`'s sign as the code answers it: 0 is no sign
 unfoldable pub answer : ℤ → Option ℤ

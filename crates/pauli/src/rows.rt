@@ -1,10 +1,12 @@
 // Pauli rows as parts of slices that start anywhere: an X plane and a Z plane of l words each, lowest word first (the Rust's `Row`,
 // `support_signature` and `anticommutes`). A row's phase is a number beside its words.
-ghost use Rattle.std.specs.Prelude.{◌≡◌, ◌⊎◌, ℕ, ◌+◌, ◌*◌, ◌/◌, ◌%◌, ◌≤◌, ◌<◌, ◌^◌, length, ◌*ℤ◌, neg_ℤ};
+ghost use Rattle.std.specs.Prelude.{◌≡◌, ◌⊎◌, ℕ, ◌+◌, ◌*◌, ◌/◌, ◌%◌, ◌≤◌, ◌<◌, ◌^◌, ◌↔◌, length, ◌*ℤ◌, neg_ℤ, IsTrue};
 ghost use Rattle.std.specs.Int.Bits.{bit_and, bit_or};
 ghost use Rattle.model.specs.Pauli.{count, sign, anti};
 ghost use Rattle.model.specs.Demands.{IsSign};
-ghost use Rattle.pauli.specs.Rows.{value, value_at, of_row, Decides, answer, blocks, left, signature, Multiplied, Exchanged};
+ghost use Rattle.pauli.specs.Rows.{value, value_at, of_row, answer, blocks, left, signature, Multiplied, Exchanged};
+
+use crate::bits::bits;
 
 // ---- counts
 
@@ -15,12 +17,10 @@ pub fn crossings(a: &[u64], b: &[u64]) -> u64
     ensures { result ≡ count (bit_and (value a.now) (value b.now)) % 2 }
 {
     let mut acc: u64 = 0;
-    let mut i = 0;
-    while i < a.len() {
-        acc ^= a[i] & b[i];
-        i += 1;
+    for (v, w) in a.iter().zip(b) {
+        acc ^= v & w;
     }
-    (u64::count_ones(acc) % 2) as u64
+    u64::from(acc.count_ones() % 2)
 }
 
 // How many qubits the sets x and z have in common, modulo 4: the Y factors of a row.
@@ -29,11 +29,8 @@ fn ys(x: &[u64], z: &[u64]) -> u64
     ensures { result ≡ count (bit_and (value x.now) (value z.now)) % 4 }
 {
     let mut sum: u64 = 0;
-    let mut i = 0;
-    while i < x.len() {
-        let n = u64::count_ones(x[i] & z[i]);
-        sum = (sum + n as u64) % 4;
-        i += 1;
+    for (v, w) in x.iter().zip(z) {
+        sum = (sum + u64::from((v & w).count_ones())) % 4;
     }
     sum
 }
@@ -78,41 +75,33 @@ fn crossed_twice(x: &[u64], z: &[u64], v: &[u64], w: &[u64]) -> u64
     ensures { result ≡ (count (bit_and (value x.now) (value w.now)) + count (bit_and (value z.now) (value v.now))) % 2 }
 {
     let mut acc: u64 = 0;
-    let mut i = 0;
-    while i < x.len() {
+    for i in 0..x.len() {
         acc ^= (x[i] & w[i]) ^ (z[i] & v[i]);
-        i += 1;
     }
-    (u64::count_ones(acc) % 2) as u64
+    u64::from(acc.count_ones() % 2)
 }
 
 // Whether two axes, of as many words each, anticommute.
 pub fn anticommutes(a: &[u64], b: &[u64]) -> bool
     requires { (length a.now ≡ length b.now) × (length a.now % 2 ≡ 0) }
-    ensures { Decides result (anti (of_row 0 a.now) (of_row 0 b.now) ≡ 1) }
+    ensures { IsTrue result ↔ (anti (of_row 0 a.now) (of_row 0 b.now) ≡ 1) }
 {
     let l = a.len() / 2;
-    let odd = crossed_twice(&a[..l], &a[l..], &b[..l], &b[l..]);
-    if odd == 1 {
-        return true;
-    }
-    false
+    crossed_twice(&a[..l], &a[l..], &b[..l], &b[l..]) == 1
 }
 
-// Whether two axes are the same, word by word, and so set by set.
+// Whether two axes are the same, word by word, and so set by set. Not `a == b`: std compares by groups, which made each look 4 % longer.
 pub fn same(a: &[u64], b: &[u64]) -> bool
-    ensures words { Decides result (a.now ≡ b.now) }
-    ensures sets { length a.now ≡ length b.now → Decides result (of_row 0 a.now ≡ of_row 0 b.now) }
+    ensures words { IsTrue result ↔ (a.now ≡ b.now) }
+    ensures sets { length a.now ≡ length b.now → IsTrue result ↔ (of_row 0 a.now ≡ of_row 0 b.now) }
 {
     if a.len() != b.len() {
         return false;
     }
-    let mut i = 0;
-    while i < a.len() {
+    for i in 0..a.len() {
         if a[i] != b[i] {
             return false;
         }
-        i += 1;
     }
     true
 }
@@ -125,16 +114,12 @@ fn block_of(q: usize, l: usize) -> usize
     requires { 0 < l }
     ensures { result ≡ q / l }
 {
-    if l == 1 {
-        return q;
+    match l {
+        1 => q,
+        2 => q / 2,
+        3 => q / 3,
+        _ => q / l,
     }
-    if l == 2 {
-        return q / 2;
-    }
-    if l == 3 {
-        return q / 3;
-    }
-    q / l
 }
 
 // sig with the bits of the qubits of word j, whose digits are w.
@@ -143,11 +128,8 @@ fn marked(sig: u64, w: u64, j: usize, l: usize) -> u64
     ensures { (u : ℕ) → bit_or result (blocks l (left u j 0) 64) ≡ bit_or sig (blocks l (left u j w) 64) }
 {
     let mut sum = sig;
-    let mut v = w;
-    while v != 0 {
-        let q = 64 * j + u64::trailing_zeros(v) as usize;
-        sum |= 1 << block_of(q, l);
-        v &= v - 1;
+    for p in bits(w) {
+        sum |= 1 << block_of(64 * j + p, l);
     }
     sum
 }
@@ -159,10 +141,8 @@ fn support(x: &[u64], z: &[u64]) -> u64
 {
     let l = x.len();
     let mut sig: u64 = 0;
-    let mut j = 0;
-    while j < l {
+    for j in 0..l {
         sig = marked(sig, x[j] | z[j], j, l);
-        j += 1;
     }
     sig
 }
@@ -185,16 +165,14 @@ pub fn multiply(frame: &mut [u64], at: usize, by: usize, l: usize) -> u64
     ensures done { Multiplied frame.old at by (2 * l) frame.new }
 {
     let mut acc: u64 = 0;
-    let mut i = 0;
-    while i < l {
+    for i in 0..l {
         let x = frame[by + i];
         let z = frame[at + l + i];
         acc ^= z & x;
         frame[at + i] ^= x;
         frame[at + l + i] = z ^ frame[by + l + i];
-        i += 1;
     }
-    (u64::count_ones(acc) % 2) as u64
+    u64::from(acc.count_ones() % 2)
 }
 
 // The rows of `words` words at `at` and at `by`, which do not overlap, change places.
@@ -202,12 +180,10 @@ pub fn exchange(frame: &mut [u64], at: usize, by: usize, words: usize)
     requires { (at + words ≤ length frame.old) × (by + words ≤ length frame.old) × ((at + words ≤ by) ⊎ (by + words ≤ at)) }
     ensures { Exchanged frame.old at by words frame.new }
 {
-    let mut i = 0;
-    while i < words {
+    for i in 0..words {
         let a = frame[at + i];
         let b = frame[by + i];
         frame[at + i] = b;
         frame[by + i] = a;
-        i += 1;
     }
 }

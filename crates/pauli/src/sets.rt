@@ -1,10 +1,10 @@
 // A set of numbers in the words of a part, 64 to a word (the Rust's `BitSet`).
-ghost use Rattle.std.specs.Prelude.{◌≡◌, ◌<◌, ◌/◌, eqb, length};
+ghost use Rattle.std.specs.Prelude.{◌≡◌, ◌<◌, ◌/◌, ◌==◌, length};
 ghost use Rattle.pauli.specs.Sets.{member, Put};
 
 pub fn contains(set: &[u64], i: usize) -> bool
     requires { i / 64 < length set.now }
-    ensures { result ≡ eqb (member set.now i) 1 }
+    ensures { result ≡ (member set.now i == 1) }
 {
     (set[i / 64] >> (i % 64)) & 1 == 1
 }

@@ -19,7 +19,7 @@ loop-i-init c =
     let e : a.at + a.l + 0 ≡ a.at + a.l = omega arith in
     let f : a.by + 0 ≡ a.by = omega arith in
     let g : a.l - 0 ≡ a.l = omega arith in
-    (omega arith, Joining-none a.s.now a.out.now a.at a.by a.l c.requires.2, rw (e, f, g) (omega (arith, count_zero)))
+    (Joining-none a.s.now a.out.now a.at a.by a.l c.requires.2, rw (e, f, g) (omega (arith, count_zero)))
 
 pub loop-i-preserved : goal.loop-i-preserved
 loop-i-preserved c =
@@ -29,13 +29,12 @@ loop-i-preserved c =
     let s = a.s.now in
     let i = loop.i in
     let hi : i < a.l = omega arith in (
-      omega arith,
-      Joining-more s loop.out a.at a.by a.l i hi loop.invariant.1,
+      Joining-more s loop.out a.at a.by a.l i hi loop.invariant.0,
       omega (
         arith,
         cross_turn s (a.at + a.l) a.by a.l i hi (known (a.at + a.l + i)).fits (known (a.by + i)).fits,
         count-xor loop.acc (bit_and (get_or s (a.at + a.l + i) 0) (get_or s (a.by + i) 0)),
-        loop.invariant.2,
+        loop.invariant.1,
       ),
     )
 
@@ -49,7 +48,7 @@ returns-clause-crossed c =
     let none : a.l - i ≡ 0 = omega arith in
     let rest : count (bit_and (value_at s (a.at + a.l + i) (a.l - i)) (value_at s (a.by + i) (a.l - i))) ≡ 0
     = ap (λ (n : ℕ). count (bit_and (value_at s (a.at + a.l + i) n) (value_at s (a.by + i) n))) none ∙ count_zero in
-    omega (arith, rest, count_ones c.loop-i.acc, c.loop-i.invariant.2)
+    omega (arith, rest, count_ones c.loop-i.acc, c.loop-i.invariant.1)
 
 pub returns-clause-done : goal.returns-clause-done
 unfolding value_at
@@ -61,4 +60,4 @@ returns-clause-done c =
     let none : a.l - i ≡ 0 = omega arith in
     let rest : count (bit_and (value_at s (a.at + a.l + i) (a.l - i)) (value_at s (a.by + i) (a.l - i))) ≡ 0
     = ap (λ (n : ℕ). count (bit_and (value_at s (a.at + a.l + i) n) (value_at s (a.by + i) n))) none ∙ count_zero in
-    Joining-all s c.loop-i.out a.at a.by a.l i e c.loop-i.invariant.1
+    Joining-all s c.loop-i.out a.at a.by a.l i e c.loop-i.invariant.0

@@ -8,7 +8,6 @@ pub loop-q-preserved : goal.loop-q-preserved
 loop-q-preserved c =
     let x = c.single in
     let z = c.single-in-loop-q in (
-      omega arith,
-      z.ensures.same_length ∙ x.ensures.same_length ∙ c.loop-q.invariant.1,
-      begun_more c.loop-q.s x.new.s z.new.s c.args.l c.loop-q.q (omega arith) c.loop-q.invariant.2 x.ensures z.ensures,
+      z.ensures.same_length ∙ x.ensures.same_length ∙ c.loop-q.invariant.0,
+      begun_more c.loop-q.s x.new.s z.new.s c.args.l c.loop-q.q (omega arith) c.loop-q.invariant.1 x.ensures z.ensures,
     )

@@ -1,15 +1,11 @@
 -- `pauli::rows::anticommutes` meets its contract. Assumes nothing.
 use mathlib.Core.Path.{refl}
-use Rattle.pauli.proofs.Signs.{crossed}
 use native.Mathlib.Omega.{arith}
+use Rattle.std.proofs.lemmas.Bool.{eq-eqb, eqb-true}
+use Rattle.pauli.proofs.Signs.{crossed}
 use Rattle.pauli.proofs.rows.anticommutes.Goals as goal
-
-pub returns-then-odd-eq1 : goal.returns-then-odd-eq1
-returns-then-odd-eq1 c =
-    let args = c.args in
-    omega (arith, crossed args.a.now args.b.now _ _ (omega arith) refl refl, c.crossed_twice-odd.ensures)
 
 pub returns : goal.returns
 returns c =
-    let args = c.args in
-    omega (arith, crossed args.a.now args.b.now _ _ (omega arith) refl refl, c.crossed_twice-odd.ensures)
+    let e = crossed c.args.a.now c.args.b.now _ _ (omega arith) refl refl in
+    (λ t. omega (arith, e, c.crossed_twice.ensures, eqb-true _ _ t), λ h. eq-eqb _ 1 (omega (arith, e, c.crossed_twice.ensures)))

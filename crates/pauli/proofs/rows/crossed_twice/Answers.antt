@@ -21,7 +21,7 @@ loop-i-preserved c =
     let two = common_step z v i (omega arith) (omega arith) (c.type_inv.z i).fits (c.type_inv.v i).fits in
     let p = bit_and (get_or x i 0) (get_or w i 0) in
     let q = bit_and (get_or z i 0) (get_or v i 0) in
-    (omega arith, omega (arith, one, two, count-xor c.loop-i.acc (bit_xor p q), count-xor p q))
+    omega (arith, one, two, count-xor c.loop-i.acc (bit_xor p q), count-xor p q)
 
 pub returns : goal.returns
 returns c =

@@ -1,23 +1,22 @@
--- `pauli::rows::crossings` meets its contract: what is folded so far has the parity of the words passed. Assumes nothing.
+-- `pauli::rows::crossings` meets its contract. Assumes nothing.
+use Rattle.std.proofs.Common.{rules}
+use mathlib.Core.Logic.{inl, inr, ⊎_elim}
 use native.Mathlib.Omega.{arith}
-use lib.ListN.{get_or}
 use lib.Bits.{bit_and}
 use Rattle.model.proofs.Counts.{count_zero, count_ones}
 use Rattle.model.proofs.Digits.{count-xor}
-use Rattle.pauli.proofs.Words.{common_start, common_step, common_end}
+use Rattle.pauli.proofs.Words.{meet-cons, meet_empty}
 use Rattle.pauli.proofs.rows.crossings.Goals as goal
 
-pub loop-i-init : goal.loop-i-init
-loop-i-init c = omega (arith, count_zero, common_start c.args.a.now c.args.b.now)
+pub loop-v-init : goal.loop-v-init
+loop-v-init c = rw count_zero (search rules)
 
-pub loop-i-preserved : goal.loop-i-preserved
-loop-i-preserved c =
-    let a = c.args.a.now in
-    let b = c.args.b.now in
-    let i = c.loop-i.i in
-    let step = common_step a b i (omega arith) (omega arith) (c.type_inv.a i).fits (c.type_inv.b i).fits in
-    (omega arith, omega (arith, step, count-xor c.loop-i.acc (bit_and (get_or a i 0) (get_or b i 0))))
+pub loop-v-preserved : goal.loop-v-preserved
+loop-v-preserved c =
+    let s = c.in-Some in
+    omega (arith, meet-cons _ _ _ _ s.v.now s.w.now s.ensures.steps.0 s.ensures.steps.1 (omega arith) (omega arith), count-xor c.loop-v.acc (bit_and s.v.now s.w.now))
 
 pub returns : goal.returns
 returns c =
-    omega (arith, common_end c.args.a.now c.args.b.now c.loop-i.i (omega arith), count_ones c.loop-i.acc)
+    let rest = c.loop-v.v-iterator in
+    omega (arith, meet_empty rest.a.rest.now rest.b.rest.now (⊎_elim (λ e. inl e.1.0) (λ e. inr e.1.0) c.in-None.ensures.steps), count_ones c.loop-v.acc)

@@ -20,11 +20,10 @@ loop-i-init c =
     let e : a.at + a.l + 0 ≡ a.at + a.l = omega arith in
     let f : a.by + 0 ≡ a.by = omega arith in
     let g : a.l - 0 ≡ a.l = omega arith in
-    (omega arith, Halfway-none a.frame.now a.at a.by a.l, rw (e, f, g) (omega (arith, count_zero)))
+    (Halfway-none a.frame.now a.at a.by a.l, rw (e, f, g) (omega (arith, count_zero)))
 
 pub loop-i-preserved : goal.loop-i-preserved
 loop-i-preserved c =
-    let known = c.slice_known-1.given in
     let loop = c.loop-i in
     let s = c.args.frame.now in
     let t = loop.frame in
@@ -32,18 +31,17 @@ loop-i-preserved c =
     let by = c.args.by in
     let l = c.args.l in
     let i = loop.i in
-    let m : Halfway s at by l i t = loop.invariant.1 in
+    let m : Halfway s at by l i t = loop.invariant.0 in
     let hi : i < l = omega arith in
     let far : by + l + i ≡ at + i → ⊥ = λ e. ⊎_elim (λ h. omega arith) (λ h. omega arith) c.requires.2 in
     let ex = x_by s t at by l i c.requires.0 c.requires.1 c.requires.2 hi m in
     let ez = z_at_lem s t at by l i c.requires.0 c.requires.1 c.requires.2 hi m in
-    let fx : get_or s (by + i) 0 < 2 ^ 64 = subst (λ (w : ℕ). w < 2 ^ 64) ex (known (by + i)).fits in
-    let fz : get_or s (at + l + i) 0 < 2 ^ 64 = subst (λ (w : ℕ). w < 2 ^ 64) ez (known (at + l + i)).fits in (
-      omega arith,
+    let fx : get_or s (by + i) 0 < 2 ^ 64 = subst (λ (w : ℕ). w < 2 ^ 64) ex (omega arith) in
+    let fz : get_or s (at + l + i) 0 < 2 ^ 64 = subst (λ (w : ℕ). w < 2 ^ 64) ez (omega arith) in (
       Halfway-more s t at by l i c.requires.0 c.requires.1 c.requires.2 hi m _ _
           (ap₂ bit_xor (x_at_lem s t at by l i c.requires.0 c.requires.1 c.requires.2 hi m) ex)
           (ap₂ bit_xor ez (get_or-set_other t (at + i) (by + l + i) _ 0 far ∙ z_by s t at by l i c.requires.0 c.requires.1 c.requires.2 hi m)),
-      omega (arith, cross_turn s (at + l) by l i hi fz fx, count-xor loop.acc (bit_and (get_or t (at + l + i) 0) (get_or t (by + i) 0)), ap₂ (λ (u v : ℕ). count (bit_and u v)) ez ex, loop.invariant.2),
+      omega (arith, cross_turn s (at + l) by l i hi fz fx, count-xor loop.acc (bit_and (get_or t (at + l + i) 0) (get_or t (by + i) 0)), ap₂ (λ (u v : ℕ). count (bit_and u v)) ez ex, loop.invariant.1),
     )
 
 pub returns-clause-crossed : goal.returns-clause-crossed
@@ -54,7 +52,7 @@ returns-clause-crossed c =
     let none : a.l - c.loop-i.i ≡ 0 = omega arith in
     let rest : count (bit_and (value_at a.frame.now (a.at + a.l + c.loop-i.i) (a.l - c.loop-i.i)) (value_at a.frame.now (a.by + c.loop-i.i) (a.l - c.loop-i.i))) ≡ 0
     = ap (λ (n : ℕ). count (bit_and (value_at a.frame.now (a.at + a.l + c.loop-i.i) n) (value_at a.frame.now (a.by + c.loop-i.i) n))) none ∙ count_zero in
-    omega (arith, rest, count_ones c.loop-i.acc, c.loop-i.invariant.2)
+    omega (arith, rest, count_ones c.loop-i.acc, c.loop-i.invariant.1)
 
 pub returns-clause-done : goal.returns-clause-done
 unfolding value_at
@@ -64,4 +62,4 @@ returns-clause-done c =
     let none : a.l - c.loop-i.i ≡ 0 = omega arith in
     let rest : count (bit_and (value_at a.frame.now (a.at + a.l + c.loop-i.i) (a.l - c.loop-i.i)) (value_at a.frame.now (a.by + c.loop-i.i) (a.l - c.loop-i.i))) ≡ 0
     = ap (λ (n : ℕ). count (bit_and (value_at a.frame.now (a.at + a.l + c.loop-i.i) n) (value_at a.frame.now (a.by + c.loop-i.i) n))) none ∙ count_zero in
-    Halfway-all a.frame.now c.loop-i.frame a.at a.by a.l (subst (λ (n : ℕ). Halfway a.frame.now a.at a.by a.l n c.loop-i.frame) e c.loop-i.invariant.1)
+    Halfway-all a.frame.now c.loop-i.frame a.at a.by a.l (subst (λ (n : ℕ). Halfway a.frame.now a.at a.by a.l n c.loop-i.frame) e c.loop-i.invariant.0)

@@ -1,7 +1,7 @@
 -- `pauli::rows::multiply` meets its contract: both planes are done up to i, and what is folded so far has the parity of the crossings passed.
 -- Assumes nothing.
 use mathlib.Core.Path.{◌≡◌}
-use Prim.Native.Nat.{◌≤◌, ◌+◌, ◌-◌, ◌%◌}
+use Prim.Native.Nat.{◌+◌, ◌-◌, ◌%◌}
 use lib.Bits.{bit_and}
 use Rattle.model.specs.Pauli.{count}
 use Rattle.pauli.specs.Rows.{value_at}
@@ -10,8 +10,5 @@ use Rattle.pauli.proofs.rows.multiply.Given as goal
 
 abbrev pub invariant-loop-i : goal.invariant-loop-i
 invariant-loop-i l =
-    (l.i ≤ l.l) × Halfway l.initial.frame l.at l.by l.l l.i l.frame
+    Halfway l.initial.frame l.at l.by l.l l.i l.frame
     × ((count l.acc + count (bit_and (value_at l.initial.frame (l.at + l.l + l.i) (l.l - l.i)) (value_at l.initial.frame (l.by + l.i) (l.l - l.i)))) % 2 ≡ count (bit_and (value_at l.initial.frame (l.at + l.l) l.l) (value_at l.initial.frame l.by l.l)) % 2)
-
-abbrev pub decreases-loop-i : goal.decreases-loop-i
-decreases-loop-i l = l.l - l.i

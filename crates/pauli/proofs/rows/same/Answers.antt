@@ -1,5 +1,6 @@
 -- `pauli::rows::same` meets its contract: every word passed is the same in both. Assumes nothing.
-use mathlib.Core.Path.{◌≡◌, ap}
+use mathlib.Core.Path.{◌≡◌, refl, sym, ap}
+use mathlib.Core.Bool.{true≢false}
 use lib.ListN.{length}
 use lib.Seq.{ext_get_or}
 use native.Mathlib.Omega.{arith}
@@ -10,16 +11,15 @@ use Rattle.pauli.proofs.rows.same.Goals as goal
 pub returns-then-a-i-clause-sets : goal.returns-then-a-i-clause-sets
 returns-then-a-i-clause-sets c =
     let i = c.loop-i.i in
-    λ long e. c.if-a-i.true (row_words _ _ long (λ j. (c.type_inv.a j).fits) (λ j. (c.type_inv.b j).fits) e i (omega arith))
+    λ long. (
+      λ e. absurd (true≢false (sym e)),
+      λ e. absurd (c.if-a-i.true (row_words _ _ long (λ j. (c.type_inv.a j).fits) (λ j. (c.type_inv.b j).fits) e i (omega arith))),
+    )
 
 pub returns-clause-words : goal.returns-clause-words
 returns-clause-words c =
-    let e : length c.args.a.now ≡ length c.args.b.now = omega arith in
-    let same : c.args.a.now ≡ c.args.b.now = ext_get_or 0 _ _ e (λ k h. c.loop-i.invariant.1 k (omega arith)) in
-    same
+    let long : length c.args.a.now ≡ length c.args.b.now = omega arith in
+    (λ t. ext_get_or 0 _ _ long (λ k h. c.loop-i.invariant k (omega arith)), λ e. refl)
 
 pub returns-clause-sets : goal.returns-clause-sets
-returns-clause-sets c =
-    let e : length c.args.a.now ≡ length c.args.b.now = omega arith in
-    let same : c.args.a.now ≡ c.args.b.now = ext_get_or 0 _ _ e (λ k h. c.loop-i.invariant.1 k (omega arith)) in
-    λ long. ap (of_row 0) same
+returns-clause-sets c = λ long. (λ t. ap (of_row 0) (ext_get_or 0 _ _ long (λ k h. c.loop-i.invariant k (omega arith))), λ e. refl)

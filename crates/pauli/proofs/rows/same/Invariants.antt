@@ -1,11 +1,8 @@
 -- `pauli::rows::same` meets its contract: every word passed is the same in both. Assumes nothing.
 use mathlib.Core.Path.{◌≡◌}
-use Prim.Native.Nat.{ℕ, ◌≤◌, ◌<◌, ◌-◌}
-use lib.ListN.{length, get_or}
+use Prim.Native.Nat.{ℕ, ◌<◌}
+use lib.ListN.{get_or}
 use Rattle.pauli.proofs.rows.same.Given as goal
 
 abbrev pub invariant-loop-i : goal.invariant-loop-i
-invariant-loop-i l = (l.i ≤ length l.a) × ((k : ℕ) → k < l.i → get_or l.a k 0 ≡ get_or l.b k 0)
-
-abbrev pub decreases-loop-i : goal.decreases-loop-i
-decreases-loop-i l = length l.a - l.i
+invariant-loop-i l = (k : ℕ) → k < l.i → get_or l.a k 0 ≡ get_or l.b k 0

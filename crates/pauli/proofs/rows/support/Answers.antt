@@ -12,7 +12,7 @@ use Rattle.pauli.proofs.rows.support.Goals as goal
 pub loop-j-init : goal.loop-j-init
 loop-j-init c =
     let a = c.args in
-    (omega arith, ap (λ (n : ℕ). blocks (length a.x.now) n 64) (mul-one (union a.x.now a.z.now 0) ∙ union_start a.x.now a.z.now))
+    ap (λ (n : ℕ). blocks (length a.x.now) n 64) (mul-one (union a.x.now a.z.now 0) ∙ union_start a.x.now a.z.now)
 
 pub loop-j-preserved : goal.loop-j-preserved
 loop-j-preserved c =
@@ -20,12 +20,10 @@ loop-j-preserved c =
     let z = c.args.z.now in
     let j = c.loop-j.j in
     let u = union x z (j + 1) in
-    let step = union_step x z j (omega arith) (omega arith) (c.type_inv.x j).fits (c.type_inv.z j).fits in (
-      omega arith,
-      ap (λ (n : ℕ). bit_or c.marked-sig.result (blocks (length x) n 64)) (sym (left_none u j)) ∙ c.marked-sig.ensures u
-          ∙ ap (λ (n : ℕ). bit_or c.loop-j.sig (blocks (length x) n 64)) (sym (left_whole (union x z j) u j (bit_or (get_or x j 0) (get_or z j 0)) step))
-          ∙ c.loop-j.invariant.1,
-    )
+    let step = union_step x z j (omega arith) (omega arith) (c.type_inv.x j).fits (c.type_inv.z j).fits in
+    ap (λ (n : ℕ). bit_or c.marked-sig.result (blocks (length x) n 64)) (sym (left_none u j)) ∙ c.marked-sig.ensures u
+    ∙ ap (λ (n : ℕ). bit_or c.loop-j.sig (blocks (length x) n 64)) (sym (left_whole (union x z j) u j (bit_or (get_or x j 0) (get_or z j 0)) step))
+    ∙ c.loop-j.invariant
 
 pub returns : goal.returns
 returns c =
@@ -36,4 +34,4 @@ returns c =
     sym (or_zero_r c.loop-j.sig)
     ∙ ap (bit_or c.loop-j.sig)
     (sym (blocks_none (length x) 64) ∙ ap (λ (n : ℕ). blocks (length x) n 64) (sym (zero-mul (2 ^ (64 * j))) ∙ ap (λ (n : ℕ). n * 2 ^ (64 * j)) (sym none)))
-    ∙ c.loop-j.invariant.1 ∙ sym (signature-blocks (length x) (value x) (value z))
+    ∙ c.loop-j.invariant ∙ sym (signature-blocks (length x) (value x) (value z))

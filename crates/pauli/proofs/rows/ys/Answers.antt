@@ -1,22 +1,17 @@
--- `pauli::rows::ys` meets its contract: what is counted so far, with what the words to come have in common. Assumes nothing.
-use lib.ListN.{get_or}
+-- `pauli::rows::ys` meets its contract. Assumes nothing.
+use mathlib.Core.Logic.{inl, inr, ⊎_elim}
+use native.Mathlib.Omega.{arith}
 use lib.Bits.{bit_and}
 use Rattle.model.proofs.Counts.{count_ones}
-use Rattle.pauli.proofs.Words.{common_start, common_step, common_end}
-use native.Mathlib.Omega.{arith}
+use Rattle.pauli.proofs.Words.{meet-cons, meet_empty}
 use Rattle.pauli.proofs.rows.ys.Goals as goal
 
-pub loop-i-init : goal.loop-i-init
-loop-i-init c = omega (arith, common_start c.args.x.now c.args.z.now)
-
-pub loop-i-preserved : goal.loop-i-preserved
-loop-i-preserved c =
-    let i = c.loop-i.i in
-    let step =
-    common_step c.args.x.now c.args.z.now i (omega arith) (omega arith) (c.type_inv.x i).fits
-    (c.type_inv.z i).fits in
-    omega (arith, step, count_ones (bit_and (get_or c.args.x.now i 0) (get_or c.args.z.now i 0)))
+pub loop-v-preserved : goal.loop-v-preserved
+loop-v-preserved c =
+    let s = c.in-Some in
+    omega (arith, meet-cons _ _ _ _ s.v.now s.w.now s.ensures.steps.0 s.ensures.steps.1 (omega arith) (omega arith), count_ones (bit_and s.v.now s.w.now))
 
 pub returns : goal.returns
 returns c =
-    omega (arith, common_end c.args.x.now c.args.z.now c.loop-i.i (omega arith))
+    let rest = c.loop-v.v-iterator in
+    omega (arith, meet_empty rest.a.rest.now rest.b.rest.now (⊎_elim (λ e. inl e.1.0) (λ e. inr e.1.0) c.in-None.ensures.steps))
