@@ -39,6 +39,7 @@ fn quarter(s: &mut [u64], n: usize, l: usize, q: usize, by: u64) -> Result<(), C
     times(s, 2 * n, l, 2 * q, 2 * q + 1, by)
 }
 
+#[tactic(auto, unfolding(model::specs::Frame::gate))]
 pub fn gate_s(s: &mut [u64], n: usize, l: usize, q: usize) -> Result<(), Corrupt>
     requires { Sized (2 * n) l s.old × (q < n) }
     ensures { Does n l (applied (s_gate q)) s.old (is_ok result) s.new }
@@ -46,6 +47,7 @@ pub fn gate_s(s: &mut [u64], n: usize, l: usize, q: usize) -> Result<(), Corrupt
     quarter(s, n, l, q, 3)
 }
 
+#[tactic(auto, unfolding(model::specs::Frame::gate))]
 pub fn gate_sdg(s: &mut [u64], n: usize, l: usize, q: usize) -> Result<(), Corrupt>
     requires { Sized (2 * n) l s.old × (q < n) }
     ensures { Does n l (applied (sdg_gate q)) s.old (is_ok result) s.new }

@@ -11,7 +11,7 @@ use lib.Bits.{bit_and, bit_xor, and_block, and_lt, xor_block}
 use lib.ListN.{length, get_or, take, drop, set, length-set, length-drop}
 use lib.Seq.{take_all, drop-cons, get_or-set_same, get_or-set_other}
 use Rattle.model.specs.Pauli.{Pauli, count}
-use Rattle.model.proofs.Counts.{count_cat}
+use Rattle.model.proofs.Counts.{count_zero, count_cat}
 use Rattle.pauli.specs.Rows.{value, value_at, x_of, z_of, of_row, Multiplied, Exchanged}
 
 -- ---- the number at an index
@@ -94,16 +94,30 @@ cross_more s a b n ha hb =
     ap count (and_block 64 (value_at s (suc a) n) (value_at s (suc b) n) (get_or s a 0) (get_or s b 0) ha hb)
     ∙ count_cat 64 (bit_and (value_at s (suc a) n) (value_at s (suc b) n)) (bit_and (get_or s a 0) (get_or s b 0)) (and_lt 64 (get_or s a 0) (get_or s b 0) ha hb)
 
--- the same with i words passed
+-- the same from the word i of both on: where none is passed, one more, and where all are
+abbrev pub crossing : (s : List ℕ) (a b n i : ℕ) → ℕ
+crossing s a b n i = count (bit_and (value_at s (a + i) (n - i)) (value_at s (b + i) (n - i)))
+
+pub cross_start : (s : List ℕ) (a b n : ℕ) → crossing s a b n 0 ≡ count (bit_and (value_at s a n) (value_at s b n))
+cross_start s a b n =
+    let e : n - 0 ≡ n = omega arith in
+    ap (λ (k : ℕ). count (bit_and (value_at s (a + 0) k) (value_at s (b + 0) k))) e
+    ∙ ap₂ (λ (j k : ℕ). count (bit_and (value_at s j n) (value_at s k n))) (add-zero a) (add-zero b)
+
 pub cross_turn : (s : List ℕ) (a b n i : ℕ) → i < n → get_or s (a + i) 0 < 2 ^ 64 → get_or s (b + i) 0 < 2 ^ 64
-    → count (bit_and (value_at s (a + i) (n - i)) (value_at s (b + i) (n - i)))
-    ≡ count (bit_and (value_at s (a + (i + 1)) (n - (i + 1))) (value_at s (b + (i + 1)) (n - (i + 1)))) + count (bit_and (get_or s (a + i) 0) (get_or s (b + i) 0))
+    → crossing s a b n i ≡ crossing s a b n (i + 1) + count (bit_and (get_or s (a + i) 0) (get_or s (b + i) 0))
 cross_turn s a b n i h ha hb =
     let e : n - i ≡ suc (n - (i + 1)) = omega arith in
     let f : suc (a + i) ≡ a + (i + 1) = omega arith in
     let g : suc (b + i) ≡ b + (i + 1) = omega arith in
     ap (λ (k : ℕ). count (bit_and (value_at s (a + i) k) (value_at s (b + i) k))) e ∙ cross_more s (a + i) (b + i) (n - (i + 1)) ha hb
     ∙ ap₂ (λ (j k : ℕ). count (bit_and (value_at s j (n - (i + 1))) (value_at s k (n - (i + 1)))) + count (bit_and (get_or s (a + i) 0) (get_or s (b + i) 0))) f g
+
+pub cross_end : (s : List ℕ) (a b n i : ℕ) → i ≡ n → crossing s a b n i ≡ 0
+unfolding value_at
+cross_end s a b n i e =
+    let none : n - i ≡ 0 = omega arith in
+    ap (λ (k : ℕ). count (bit_and (value_at s (a + i) k) (value_at s (b + i) k))) none ∙ count_zero
 
 -- t is s with the first i words of both planes of the row at `at` xored with those of the row at `by`
 pub record Halfway (s : List ℕ) (at by l i : ℕ) (t : List ℕ) : Type 0 where

@@ -1,14 +1,12 @@
 -- `frame::axes::joined` meets its contract: both planes are written up to i, and what is folded so far has the parity of the crossings passed.
 -- Assumes nothing.
-use mathlib.Core.Path.{◌≡◌, ap, ◌∙◌}
-use Prim.Native.Nat.{ℕ, ◌<◌, ◌+◌, ◌-◌}
+use mathlib.Core.Path.{◌≡◌}
+use Prim.Native.Nat.{◌<◌, ◌+◌}
 use lib.Bits.{bit_and}
 use lib.ListN.{get_or}
-use Rattle.model.specs.Pauli.{count}
 use Rattle.model.proofs.Counts.{count_zero, count_ones}
 use Rattle.model.proofs.Digits.{count-xor}
-use Rattle.pauli.specs.Rows.{value_at}
-use Rattle.pauli.proofs.RowLaws.{cross_turn}
+use Rattle.pauli.proofs.RowLaws.{cross_start, cross_turn, cross_end}
 use Rattle.frame.proofs.AxisLaws.{Joining-none, Joining-more, Joining-all}
 use native.Mathlib.Omega.{arith}
 use Rattle.frame.proofs.axes.joined.Goals as goal
@@ -16,10 +14,7 @@ use Rattle.frame.proofs.axes.joined.Goals as goal
 pub loop-i-init : goal.loop-i-init
 loop-i-init c =
     let a = c.args in
-    let e : a.at + a.l + 0 ≡ a.at + a.l = omega arith in
-    let f : a.by + 0 ≡ a.by = omega arith in
-    let g : a.l - 0 ≡ a.l = omega arith in
-    (Joining-none a.s.now a.out.now a.at a.by a.l c.requires.2, rw (e, f, g) (omega (arith, count_zero)))
+    (Joining-none a.s.now a.out.now a.at a.by a.l c.requires.2, omega (arith, count_zero, cross_start a.s.now (a.at + a.l) a.by a.l))
 
 pub loop-i-preserved : goal.loop-i-preserved
 loop-i-preserved c =
@@ -39,25 +34,13 @@ loop-i-preserved c =
     )
 
 pub returns-clause-crossed : goal.returns-clause-crossed
-unfolding value_at
 returns-clause-crossed c =
     let a = c.args in
-    let s = a.s.now in
-    let i = c.loop-i.i in
-    let e : i ≡ a.l = omega arith in
-    let none : a.l - i ≡ 0 = omega arith in
-    let rest : count (bit_and (value_at s (a.at + a.l + i) (a.l - i)) (value_at s (a.by + i) (a.l - i))) ≡ 0
-    = ap (λ (n : ℕ). count (bit_and (value_at s (a.at + a.l + i) n) (value_at s (a.by + i) n))) none ∙ count_zero in
-    omega (arith, rest, count_ones c.loop-i.acc, c.loop-i.invariant.1)
+    omega (arith, cross_end a.s.now (a.at + a.l) a.by a.l c.loop-i.i (omega arith), count_ones c.loop-i.acc, c.loop-i.invariant.1)
 
 pub returns-clause-done : goal.returns-clause-done
-unfolding value_at
 returns-clause-done c =
     let a = c.args in
-    let s = a.s.now in
     let i = c.loop-i.i in
     let e : i ≡ a.l = omega arith in
-    let none : a.l - i ≡ 0 = omega arith in
-    let rest : count (bit_and (value_at s (a.at + a.l + i) (a.l - i)) (value_at s (a.by + i) (a.l - i))) ≡ 0
-    = ap (λ (n : ℕ). count (bit_and (value_at s (a.at + a.l + i) n) (value_at s (a.by + i) n))) none ∙ count_zero in
-    Joining-all s c.loop-i.out a.at a.by a.l i e c.loop-i.invariant.0
+    Joining-all a.s.now c.loop-i.out a.at a.by a.l i e c.loop-i.invariant.0

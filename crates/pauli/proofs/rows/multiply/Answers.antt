@@ -11,16 +11,13 @@ use Rattle.model.specs.Pauli.{count}
 use Rattle.model.proofs.Counts.{count_zero, count_ones}
 use Rattle.model.proofs.Digits.{count-xor}
 use Rattle.pauli.specs.Rows.{value_at}
-use Rattle.pauli.proofs.RowLaws.{cross_turn, Halfway, Halfway-none, Halfway-more, Halfway-all, x_at_lem, x_by, z_by, z_at_lem}
+use Rattle.pauli.proofs.RowLaws.{cross_start, cross_turn, cross_end, Halfway, Halfway-none, Halfway-more, Halfway-all, x_at_lem, x_by, z_by, z_at_lem}
 use Rattle.pauli.proofs.rows.multiply.Goals as goal
 
 pub loop-i-init : goal.loop-i-init
 loop-i-init c =
     let a = c.args in
-    let e : a.at + a.l + 0 ≡ a.at + a.l = omega arith in
-    let f : a.by + 0 ≡ a.by = omega arith in
-    let g : a.l - 0 ≡ a.l = omega arith in
-    (Halfway-none a.frame.now a.at a.by a.l, rw (e, f, g) (omega (arith, count_zero)))
+    (Halfway-none a.frame.now a.at a.by a.l, omega (arith, count_zero, cross_start a.frame.now (a.at + a.l) a.by a.l))
 
 pub loop-i-preserved : goal.loop-i-preserved
 loop-i-preserved c =
@@ -45,21 +42,12 @@ loop-i-preserved c =
     )
 
 pub returns-clause-crossed : goal.returns-clause-crossed
-unfolding value_at
 returns-clause-crossed c =
     let a = c.args in
-    let e : c.loop-i.i ≡ a.l = omega arith in
-    let none : a.l - c.loop-i.i ≡ 0 = omega arith in
-    let rest : count (bit_and (value_at a.frame.now (a.at + a.l + c.loop-i.i) (a.l - c.loop-i.i)) (value_at a.frame.now (a.by + c.loop-i.i) (a.l - c.loop-i.i))) ≡ 0
-    = ap (λ (n : ℕ). count (bit_and (value_at a.frame.now (a.at + a.l + c.loop-i.i) n) (value_at a.frame.now (a.by + c.loop-i.i) n))) none ∙ count_zero in
-    omega (arith, rest, count_ones c.loop-i.acc, c.loop-i.invariant.1)
+    omega (arith, cross_end a.frame.now (a.at + a.l) a.by a.l c.loop-i.i (omega arith), count_ones c.loop-i.acc, c.loop-i.invariant.1)
 
 pub returns-clause-done : goal.returns-clause-done
-unfolding value_at
 returns-clause-done c =
     let a = c.args in
     let e : c.loop-i.i ≡ a.l = omega arith in
-    let none : a.l - c.loop-i.i ≡ 0 = omega arith in
-    let rest : count (bit_and (value_at a.frame.now (a.at + a.l + c.loop-i.i) (a.l - c.loop-i.i)) (value_at a.frame.now (a.by + c.loop-i.i) (a.l - c.loop-i.i))) ≡ 0
-    = ap (λ (n : ℕ). count (bit_and (value_at a.frame.now (a.at + a.l + c.loop-i.i) n) (value_at a.frame.now (a.by + c.loop-i.i) n))) none ∙ count_zero in
     Halfway-all a.frame.now c.loop-i.frame a.at a.by a.l (subst (λ (n : ℕ). Halfway a.frame.now a.at a.by a.l n c.loop-i.frame) e c.loop-i.invariant.0)
