@@ -2,22 +2,23 @@
 // are read in blocks and handed on, and the bytes handed back are written.
 #![tactic(auto)]
 
-use session::run::{Ran, last, run, start};
+use session::run::{LABEL_WORDS, STORE_WORDS, last, run, start};
+use session::stages::Ran;
 use std::io;
 use std::io::Read;
+use text::lines::LINE_BYTES;
 
 // Only the end of the input (a read of no bytes) ends a job well. After a read or a write that fails, nothing more is said: there is no end line, and the
 // error is the program's.
 fn main(rt: HostRuntime) -> io::Result<()> {
     let mut t = start();
-    let mut buf = [0u8; 80];
-    let mut labels = [0u64; 128];
-    let mut store = [0u64; 4401];
+    let mut buf = [0u8; LINE_BYTES];
+    let mut labels = [0u64; LABEL_WORDS];
+    let mut store = [0u64; STORE_WORDS];
     let mut out = [0u8; 65536];
     let mut input = rt.stdin();
     // A proved loop ends: so many reads are never made.
-    let mut turns: u64 = 1099511627776;
-    while turns > 0 {
+    for _turn in 0..1u64 << 40 {
         let mut block = [0u8; 512];
         let n = input.read(&mut block)?;
         if n == 0 {
@@ -25,17 +26,14 @@ fn main(rt: HostRuntime) -> io::Result<()> {
             return rt.write_all(&out[..said]);
         }
         match run(t, &block[..n], &mut buf, &mut labels, &mut store, &mut out) {
-            Ran::On(next, said) => {
+            Ok(Ran::On(next, said)) => {
                 rt.write_all(&out[..said])?;
                 t = next;
             }
-            Ran::Stop(said) => {
-                return rt.write_all(&out[..said]);
-            }
+            Ok(Ran::Stop(said)) => return rt.write_all(&out[..said]),
             // Only on slices of other sizes: it is proved that these are not.
-            Ran::Unfit => unreachable!(),
+            Err(_) => unreachable!(),
         }
-        turns -= 1;
     }
     Ok(())
 }

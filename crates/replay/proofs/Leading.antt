@@ -7,8 +7,9 @@ use lib.ListN.{length, take, drop}
 use Rattle.store.proofs.Splice.{part_length}
 use Rattle.session.specs.Desk.{Sized, Fits, Runs, Begins}
 use Rattle.session.specs.declared.stages.Talk.{Talk}
-use Rattle.session.specs.declared.run.Ran.{Ran}
-use Rattle.session.specs.declared.run.Ran.TheVariants as runs
+use Rattle.std.specs.Prelude.{Ok, Err}
+use Rattle.session.specs.declared.stages.Ran.TheVariants as runs
+use Rattle.session.specs.declared.run.Unfit.{Unfit}
 use Rattle.session.proofs.Callers.{start_Sized, never_unfit, run_on}
 use Rattle.replay.specs.Jobs.{lines_of, Ready, Open, Leads}
 use Rattle.replay.specs.declared.Job.{Job}
@@ -27,12 +28,14 @@ module _ (t : Talk) (bytes buf ls store out : List ℕ) (o : Open (jobs.On t) by
         lines = omega (arith, o.lines);
       }
 
-  module _ (r : Ran) (buf' ls' store' out' : List ℕ) (ran : Runs t bytes buf ls store out r buf' ls' store' out') where
-    pub talk_fits : r ≡ runs.Unfit → ⊥
-    talk_fits e = never_unfit t bytes buf ls store out r buf' ls' store' out' open_Fits ran e
+  pub talk_fits : (e : Unfit) (buf' ls' store' out' : List ℕ) → Runs t bytes buf ls store out (Err e) buf' ls' store' out' → ⊥
+  talk_fits e buf' ls' store' out' h = never_unfit t bytes buf ls store out buf' ls' store' out' open_Fits e h
 
-    pub talk_on : (u : Talk) (n : ℕ) → r ≡ runs.On u n → Leads (jobs.On t) bytes (jobs.On u) buf' ls' store'
-    talk_on u n e = let h = run_on t bytes buf ls store out r buf' ls' store' out' open_Fits ran u n e in record { ready = ready_on u buf' ls' store' h.0; lines = h.1 }
+  pub talk_on : (u : Talk) (n : ℕ) (buf' ls' store' out' : List ℕ) → Runs t bytes buf ls store out (Ok (runs.On u n)) buf' ls' store' out'
+      → Leads (jobs.On t) bytes (jobs.On u) buf' ls' store'
+  talk_on u n buf' ls' store' out' h =
+      let p = run_on t bytes buf ls store out buf' ls' store' out' open_Fits u n h in
+      record { ready = ready_on u buf' ls' store' p.0; lines = p.1 }
 
 module _ (j : Job) (bytes buf ls store out : List ℕ) (o : Open j bytes buf ls store out) where
   pub open_at : (k : Job) → j ≡ k → Open k bytes buf ls store out

@@ -7,10 +7,14 @@ ghost use Rattle.std.specs.Prelude.{◌+◌, ◌≤◌, ◌<◌, ◌^◌, length
 ghost use Rattle.replay.specs.declared.Job.TheVariants as jobs;
 ghost use Rattle.replay.specs.Jobs.{Open, Leads};
 
-use session::run::{Ran, last, run, start};
-use session::stages::Talk;
+use session::run::{LABEL_WORDS, STORE_WORDS, last, run, start};
+use session::stages::{Ran, Talk};
 use std::io;
 use std::io::Read;
+use text::lines::LINE_BYTES;
+
+// The byte behind each job.
+const MARK: u8 = 30;
 
 // A job: none of its bytes is read; it goes on; or its session stopped.
 #[derive(Drop)]
@@ -27,19 +31,17 @@ struct Place {
     job: Job,
 }
 
-// The place of the next byte 30 from a place on, or the end.
+// The place of the next mark from a place on, or the end.
 fn until(bytes: &[u8], from: usize) -> usize
     requires { from ≤ length bytes.now }
     ensures { (from ≤ result) × (result ≤ length bytes.now) }
 {
-    let mut i = from;
-    while i < bytes.len() {
-        if bytes[i] == 30 {
+    for i in from..bytes.len() {
+        if bytes[i] == MARK {
             return i;
         }
-        i += 1;
     }
-    i
+    bytes.len()
 }
 
 // Writes these bytes. A write that fails is passed over: the output is compared with the file `stdout`, and then lacks them.
@@ -68,16 +70,16 @@ fn talk(
     ensures { Leads (jobs.On t) bytes.now result buf.new labels.new store.new }
 {
     match run(t, bytes, buf, labels, store, out) {
-        Ran::On(next, said) => {
+        Ok(Ran::On(next, said)) => {
             say(rt, &out[..said]);
             Job::On(next)
         }
-        Ran::Stop(said) => {
+        Ok(Ran::Stop(said)) => {
             say(rt, &out[..said]);
             Job::Over
         }
         // Only on slices of other sizes: it is proved that these are not.
-        Ran::Unfit => unreachable!(),
+        Err(_) => unreachable!(),
     }
 }
 
@@ -107,12 +109,9 @@ fn piece(
 
 // The end of a job.
 fn end(rt: &impl Print, job: Job, out: &mut [u8]) {
-    match job {
-        Job::On(t) => {
-            let said = last(t, out);
-            say(rt, &out[..said]);
-        }
-        _ => {}
+    if let Job::On(t) = job {
+        let said = last(t, out);
+        say(rt, &out[..said]);
     }
 }
 
@@ -131,18 +130,15 @@ fn step(
     ensures { Leads p.job bytes.now result.job buf.new labels.new store.new × (result.number ≤ p.number + 1) }
 {
     let number = p.number;
-    let next = piece(rt, p, bytes, buf, labels, store, out);
+    let job = piece(rt, p, bytes, buf, labels, store, out);
     if marked {
-        end(rt, next, out);
+        end(rt, job, out);
         return Place {
             number: number + 1,
             job: Job::New,
         };
     }
-    Place {
-        number: number,
-        job: next,
-    }
+    Place { number, job }
 }
 
 // A block of the input.
@@ -182,14 +178,13 @@ fn main(rt: HostRuntime) -> io::Result<()> {
         number: 1,
         job: Job::New,
     };
-    let mut buf = [0u8; 80];
-    let mut labels = [0u64; 128];
-    let mut store = [0u64; 4401];
+    let mut buf = [0u8; LINE_BYTES];
+    let mut labels = [0u64; LABEL_WORDS];
+    let mut store = [0u64; STORE_WORDS];
     let mut out = [0u8; 65536];
     let mut input = rt.stdin();
     // A proved loop ends: so many reads are never made.
-    let mut turns: u64 = 1099511627776;
-    while turns > 0 {
+    for _turn in 0..1u64 << 40 {
         let mut bytes = [0u8; 512];
         let n = input.read(&mut bytes)?;
         if n == 0 {
@@ -204,7 +199,6 @@ fn main(rt: HostRuntime) -> io::Result<()> {
             &mut store,
             &mut out,
         );
-        turns -= 1;
     }
     Ok(())
 }

@@ -1,5 +1,4 @@
 pub mod Others
-pub mod Heading
 pub mod Counting
 pub mod Telling
 pub mod Hearing

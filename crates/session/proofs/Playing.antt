@@ -1,7 +1,7 @@
 -- What the bytes of a block lead to. Assumes nothing.
 use Prim.Native.Nat.{ℕ, suc, ◌+◌, ◌-◌, ◌*◌, ◌^◌, ◌≤◌, ◌<◌}
 use mathlib.Core.Path.{◌≡◌, refl, sym, ap, ap₂, ◌∙◌, subst}
-use mathlib.Core.Bool.{Bool, true, false, cond, not, true≢false}
+use mathlib.Core.Bool.{Bool, true, false, cond}
 use mathlib.Core.List.{List, [], ◌∷◌, ◌++◌, append_assoc, append-nil}
 use native.Mathlib.Omega.{arith}
 use native.Mathlib.Numerals.{add-one}
@@ -15,16 +15,15 @@ use Rattle.model.specs.Events.{State}
 use Rattle.text.specs.Spoken.{Saying, bad, end, spoken}
 use Rattle.text.specs.Wrote.{Wrote}
 use Rattle.session.specs.Session.{Next, on, stop, Place, heard, saying, and_then, ran, finished, last_saying}
-use Rattle.session.specs.Desk.{stage_of, Means, place_of, Sized, Hears, Fits, EndsRan, Plays, InsideRan, Runs, closing, last_of, Lasts}
+use Rattle.session.specs.Desk.{stage_of, Means, place_of, Sized, Hears, Fits, Plays, Runs, closing, last_of, Lasts}
 use Rattle.session.specs.declared.stages.Stage as code
 use Rattle.session.specs.declared.stages.Stage.TheVariants as at
 use Rattle.session.specs.declared.stages.Talk.{Talk}
-use Rattle.session.specs.declared.run.Heard.{Heard}
-use Rattle.session.specs.declared.run.Heard.TheVariants as hears
-use Rattle.session.specs.declared.run.Ran.{Ran}
-use Rattle.session.specs.declared.run.Ran.TheVariants as runs
+use Rattle.session.specs.declared.stages.Ran.{Ran}
+use Rattle.session.specs.declared.stages.Ran.TheVariants as runs
 use Rattle.session.proofs.Telling.{At}
-use Rattle.session.proofs.Hearing.{Tests}
+use Rattle.session.specs.declared.run.Unfit.{Unfit}
+use Rattle.std.specs.Prelude.{Ok, Err}
 
 -- i bytes of the input are heard, and `at` bytes are said
 pub record Played (from : Talk) (input buf₀ ls₀ store₀ out₀ buf ls store out : List ℕ) (t : Talk) (at i : ℕ) : Type 0 where
@@ -120,25 +119,23 @@ module _ (from : Talk) (input buf₀ ls₀ store₀ out₀ buf ls store out : Li
     there : at ≤ length out
     there = omega (arith, enough)
 
-    module _ (r : Heard) (buf' ls' store' ys : List ℕ) (long : length ys ≡ length (take (length out - at) (drop at out)))
-        (h : Hears t buf ls store (take (length out - at) (drop at out)) (get_or input i 0) r buf' ls' store' ys) where
-      heard_is : (x : Heard) → r ≡ x → Hears t buf ls store (take (length out - at) (drop at out)) (get_or input i 0) x buf' ls' store' ys
-      heard_is x e = subst (λ (y : Heard). Hears t buf ls store (take (length out - at) (drop at out)) (get_or input i 0) y buf' ls' store' ys) e h
+    module _ (buf' ls' store' ys : List ℕ) (long : length ys ≡ length (take (length out - at) (drop at out))) where
+      abbrev Heard : Ran Talk → Type 0
+      Heard r = Hears t buf ls store (take (length out - at) (drop at out)) (get_or input i 0) r buf' ls' store' ys
 
-      pub room_on : (t' : Talk) (n : ℕ) → r ≡ hears.On t' n → at + n ≤ length out₀
-      room_on t' n e = omega (arith, (heard_is (hears.On t' n) e).ends.2.few, enough, p.same_length)
+      pub room_on : (t' : Talk) (n : ℕ) → Heard (runs.On t' n) → at + n ≤ length out₀
+      room_on t' n d = omega (arith, d.ends.2.few, enough, p.same_length)
 
-      pub room_stop : (n : ℕ) → r ≡ hears.Stop n → at + n ≤ length out₀
-      room_stop n e = omega (arith, (heard_is (hears.Stop n) e).ends.few, enough, p.same_length)
+      pub room_stop : (n : ℕ) → Heard (runs.Stop n) → at + n ≤ length out₀
+      room_stop n d = omega (arith, d.ends.few, enough, p.same_length)
 
       next_byte : (q : Place) → ran q (drop i input) ≡ and_then (heard q (get_or input i 0)) (λ z. ran z (drop (suc i) input))
       unfolding ran
       next_byte q = ap (ran q) (drop-cons input i 0 more)
 
-      pub Played-on : (t' : Talk) (n : ℕ) → r ≡ hears.On t' n
+      pub Played-on : (t' : Talk) (n : ℕ) → Heard (runs.On t' n)
           → Played from input buf₀ ls₀ store₀ out₀ buf' ls' store' (splice at (length out - at) out ys) t' (at + n) (i + 1)
-      Played-on t' n e =
-          let d = heard_is (hears.On t' n) e in
+      Played-on t' n d =
           let few : n ≤ 128 = d.ends.2.few in
           let in_ys : n ≤ length ys = d.ends.2.fresh.inside.within in
           record {
@@ -160,9 +157,8 @@ module _ (from : Talk) (input buf₀ ls₀ store₀ out₀ buf ls store out : Li
                 );
           }
 
-      pub played_stop : (n : ℕ) → r ≡ hears.Stop n → Plays from input buf₀ ls₀ store₀ out₀ (runs.Stop (at + n)) buf' ls' store' (splice at (length out - at) out ys)
-      played_stop n e =
-          let d = heard_is (hears.Stop n) e in
+      pub played_stop : (n : ℕ) → Heard (runs.Stop n) → Plays from input buf₀ ls₀ store₀ out₀ (runs.Stop (at + n)) buf' ls' store' (splice at (length out - at) out ys)
+      played_stop n d =
           let in_ys : n ≤ length ys = d.ends.fresh.inside.within in
           let same : length (splice at (length out - at) out ys) ≡ length out = back-length at out ys there long in
           let inside : at + n ≤ length (splice at (length out - at) out ys) = omega (arith, d.ends.few, enough) in
@@ -210,19 +206,21 @@ module _ (t : Talk) (out : List ℕ) where
         past : 2 ^ 62 < t.line → ⊥
         past far = omega arith
 
-    pub last_held : 0 < t.held → Wrote out 0 (spoken (bad (t.line + 1))) out' n → Lasts t out n out'
+    pub last_held : (t.held ≡ 0 → ⊥) → Wrote out 0 (spoken (bad (t.line + 1))) out' n → Lasts t out n out'
     unfolding last_of
-    last_held h w = lasts (bad (t.line + 1)) (rw (ne_eqb t.held 0 (λ (z : t.held ≡ 0). omega arith))) w
+    last_held h w = lasts (bad (t.line + 1)) (rw (ne_eqb t.held 0 h)) w
 
-    none_held : t.held ≤ 0 → last_of t ≡ closing t.line t.stage
+    pub last_end : (e l : ℕ) → t.stage ≡ at.Running e l → t.held ≡ 0 → Wrote out 0 (spoken (end t.line (record { events = e; live = l }))) out' n → Lasts t out n out'
     unfolding last_of
-    none_held h = let z : t.held ≡ 0 = omega arith in rw (eq-eqb t.held 0 z)
+    last_end e l u h w = lasts (end t.line (record { events = e; live = l })) (rw (eq-eqb t.held 0 h, u)) w
 
-    pub last_end : (e l : ℕ) → t.stage ≡ at.Running e l → t.held ≤ 0 → Wrote out 0 (spoken (end t.line (record { events = e; live = l }))) out' n → Lasts t out n out'
-    last_end e l u h w = lasts (end t.line (record { events = e; live = l })) (none_held h ∙ ap (closing t.line) u) w
-
-    pub last_early : At (0 ∷ 1 ∷ 2 ∷ 3 ∷ 4 ∷ []) t.stage → t.held ≤ 0 → Wrote out 0 (spoken (bad (t.line + 1))) out' n → Lasts t out n out'
-    last_early u h w = lasts (bad (t.line + 1)) (none_held h ∙ early t.stage u t.line) w
+    pub last_early : At (0 ∷ 1 ∷ 2 ∷ 3 ∷ 4 ∷ []) t.stage → Wrote out 0 (spoken (bad (t.line + 1))) out' n → Lasts t out n out'
+    unfolding last_of
+    last_early u w = lasts (bad (t.line + 1)) (either (eqb t.held 0)) w
+      where
+        either : (b : Bool) → cond b (closing t.line t.stage) (bad (t.line + 1)) ≡ bad (t.line + 1)
+        either true = early t.stage u t.line
+        either false = refl
 
 -- what the end is told is what the session says there
 closing_is : (s : code.Stage) (line : ℕ) (ls store : List ℕ) (m : State) → Means s store m → closing line s ≡ finished line (stage_of s ls m)
@@ -240,22 +238,10 @@ last_is t buf ls store m fits means =
 
 -- ---- any slices
 
-pub does_not_fit : {P : Type 0} (b : Bool) → Tests b P → not b ≡ true → P → ⊥
-does_not_fit true h e = absurd (true≢false (sym e))
-does_not_fit false h e = h.1 refl
+pub unfit_Runs : (t : Talk) (input buf ls store out : List ℕ) (e : Unfit) → (Fits t input buf ls store out → ⊥) → Runs t input buf ls store out (Err e) buf ls store out
+unfit_Runs t input buf ls store out e n = record { inside = tt; fit = λ f. absurd (n f); unfit = λ u. (refl, refl, refl, refl, refl) }
 
-pub does_fit : {P : Type 0} (b : Bool) → Tests b P → not b ≡ false → P
-does_fit true h e = h.0 refl
-does_fit false h e = absurd (true≢false e)
-
-pub unfit_Runs : (t : Talk) (input buf ls store out : List ℕ) → (Fits t input buf ls store out → ⊥) → Runs t input buf ls store out runs.Unfit buf ls store out
-unfit_Runs t input buf ls store out n = record { inside = tt; fit = λ f. absurd (n f); unfit = λ u. (refl, refl, refl, refl, refl) }
-
-pub fit_Runs : (t : Talk) (input buf ls store out : List ℕ) (r : Ran) (buf' ls' store' out' : List ℕ) → Fits t input buf ls store out
-    → Plays t input buf ls store out r buf' ls' store' out' → Runs t input buf ls store out r buf' ls' store' out'
-fit_Runs t input buf ls store out r buf' ls' store' out' f p = record { inside = go r p.ends; fit = λ u. p; unfit = λ n. absurd (n f) }
-  where
-    go : (x : Ran) → EndsRan x buf' ls' store' out out' (t.line + length input) → InsideRan x out'
-    go (runs.On u n) h = h.2.inside
-    go (runs.Stop n) h = h.inside
-    go runs.Unfit h = absurd h
+pub fit_Runs : (t : Talk) (input buf ls store out : List ℕ) (r : Ran Talk) (buf' ls' store' out' : List ℕ) → Fits t input buf ls store out
+    → Plays t input buf ls store out r buf' ls' store' out' → Runs t input buf ls store out (Ok r) buf' ls' store' out'
+fit_Runs t input buf ls store out (runs.On u n) buf' ls' store' out' f p = record { inside = p.ends.2.inside; fit = λ u. p; unfit = λ n. absurd (n f) }
+fit_Runs t input buf ls store out (runs.Stop n) buf' ls' store' out' f p = record { inside = p.ends.inside; fit = λ u. p; unfit = λ n. absurd (n f) }

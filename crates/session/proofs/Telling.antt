@@ -44,10 +44,8 @@ use Rattle.session.specs.Session.{running, on, stop, room, tried, settled, wrong
 use Rattle.session.specs.Desk.{stage_of, Running, Means, Near, Within, Takes, Said, Tells, records_of, kills_of, counted, Counts, Does}
 use Rattle.session.specs.declared.stages.Stage as code
 use Rattle.session.specs.declared.stages.Stage.TheVariants as at
-use Rattle.session.specs.declared.header.Took.{Took}
-use Rattle.session.specs.declared.header.Took.TheVariants as took
-use Rattle.session.specs.declared.desk.Told.{Told}
-use Rattle.session.specs.declared.desk.Told.TheVariants as telling
+use Rattle.session.specs.declared.stages.Ran.{Ran}
+use Rattle.session.specs.declared.stages.Ran.TheVariants as runs
 use Rattle.session.specs.contracts.stages.Stage as stages
 use Rattle.session.proofs.Others.{OfTags, no_operation}
 use Rattle.session.proofs.Counting.{counted_is}
@@ -187,7 +185,7 @@ module _ (ln e l : ℕ) (c : Call) (store out : List ℕ) (a : Answer) (st : cod
     live = refl;
   }
 
-  pub call_Does : Does (answered_by ln (call_in c)) e l store out (telling.On st n) store' out'
+  pub call_Does : Does (answered_by ln (call_in c)) e l store out (runs.On st n) store' out'
   call_Does = record {
     ends = (subst (λ (x : code.Stage). Within x) (sym counts.running.2) tt, said_of (replied ln (told a)) out out' n wrote wide);
     is = λ m r. (
@@ -200,7 +198,7 @@ module _ (ln e l : ℕ) (c : Call) (store out : List ℕ) (a : Answer) (st : cod
 
 module _ (ln e l : ℕ) (kind : Kind) (q : ℕ) (store out : List ℕ) (sight : Sight) (n : ℕ) (out' : List ℕ) (size : length store ≡ room) (wide : 128 ≤ length out)
     (answers : Answers (model.call_look (kind_of kind) q) store (told_look sight)) (wrote : Wrote out 0 (spoken (replied ln (told_look sight))) out' n) where
-  pub look_Does : Does (answered_by ln (model.call_look (kind_of kind) q)) e l store out (telling.On (at.Running e l) n) store out'
+  pub look_Does : Does (answered_by ln (model.call_look (kind_of kind) q)) e l store out (runs.On (at.Running e l) n) store out'
   look_Does = record {
     ends = (tt, said_of (replied ln (told_look sight)) out out' n wrote wide);
     is = λ m r. (
@@ -212,7 +210,7 @@ module _ (ln e l : ℕ) (kind : Kind) (q : ℕ) (store out : List ℕ) (sight : 
     );
   }
 
-module _ (ln e l : ℕ) (x : Line) (store out : List ℕ) (r : Told) (store' out' : List ℕ) where
+module _ (ln e l : ℕ) (x : Line) (store out : List ℕ) (r : Ran code.Stage) (store' out' : List ℕ) where
   pub call_line : (c : Call) → x ≡ line.Call c → Does (answered_by ln (call_in c)) e l store out r store' out' → Does (operated ln x) e l store out r store' out'
   call_line c u h = subst (λ (y : Line). Does (operated ln y) e l store out r store' out') (sym u) h
 
@@ -221,7 +219,7 @@ module _ (ln e l : ℕ) (x : Line) (store out : List ℕ) (r : Told) (store' out
   look_line kind q u h = subst (λ (y : Line). Does (operated ln y) e l store out r store' out') (sym u) h
 
 pub other_line : (ln e l : ℕ) (x : Line) (store out : List ℕ) (n : ℕ) (out' : List ℕ) → OfTags (0 ∷ 1 ∷ 2 ∷ 3 ∷ 4 ∷ []) x → 128 ≤ length out
-    → Wrote out 0 (spoken (bad ln)) out' n → Does (operated ln x) e l store out (telling.Stop n) store out'
+    → Wrote out 0 (spoken (bad ln)) out' n → Does (operated ln x) e l store out (runs.Stop n) store out'
 other_line ln e l x store out n out' h wide w = record {
   ends = said_of (bad ln) out out' n w wide;
   is = λ m r. (m, tt, λ ls. no_operation (wrong ln) x _ _ h ∙ ap stop (sym (said_is (bad ln) out out' n w wide)));
@@ -247,7 +245,7 @@ module _ (n : ℕ) (f : forms.Form) (E A : ℕ) (ls store out : List ℕ) (a : A
   all_read x y = rw (le-ltb n n (omega arith))
 
   pub refused_opening : (k j : ℕ) (out' : List ℕ) → a ≡ answer.Refused k → 128 ≤ length out → Wrote out 0 (spoken (not_opened k)) out' j
-      → Tells settled (at.Labels n f E A n) ls store out (telling.Stop j) ls store' out'
+      → Tells settled (at.Labels n f E A n) ls store out (runs.Stop j) ls store' out'
   unfolding told tried number
   refused_opening k j out' u wide w = record {
     ends = said_of (not_opened k) out out' j w wide;
@@ -271,11 +269,11 @@ module _ (n : ℕ) (f : forms.Form) (E A : ℕ) (ls store out : List ℕ) (a : A
   unfolding opened opening tally keep
   first few h = record { held = h; few = few; events = refl; live = refl }
 
-  pub done_opening : OneOf (0 ∷ 1 ∷ []) (tag_of answers.the_type a) → E ≤ 48 → Tells settled (at.Labels n f E A n) ls store out (telling.On (at.Running 0 0) 0) ls store' out
+  pub done_opening : OneOf (0 ∷ 1 ∷ []) (tag_of answers.the_type a) → E ≤ 48 → Tells settled (at.Labels n f E A n) ls store out (runs.On (at.Running 0 0) 0) ls store' out
   unfolding tried
   done_opening h few = go (ℕ_discrete (open_answer o) 0)
     where
-      go : Dec (open_answer o ≡ 0) → Tells settled (at.Labels n f E A n) ls store out (telling.On (at.Running 0 0) 0) ls store' out
+      go : Dec (open_answer o ≡ 0) → Tells settled (at.Labels n f E A n) ls store out (runs.On (at.Running 0 0) 0) ls store' out
       go (yes z) = record {
         ends = (tt, nothing_said out);
         is = λ m u. (opened o, first few (Opens-o.becomes z).held, all_read _ _ ∙ ap (λ (b : Bool). cond b (on (running (opened o)) []) (stop (spoken (not_opened (open_answer o))))) (eq-eqb (open_answer o) 0 z));
@@ -289,15 +287,15 @@ At ks s = OneOf ks (tag_of stages.the_type s)
 
 module _ (ls store out : List ℕ) where
   pub more_labels : (st : code.Stage) (n : ℕ) (f : forms.Form) (E A q : ℕ) → st ≡ at.Labels n f E A q → q < n → Near st
-      → Tells settled st ls store out (telling.On (at.Labels n f E A q) 0) ls store out
+      → Tells settled st ls store out (runs.On (at.Labels n f E A q) 0) ls store out
   more_labels st n f E A q u h near =
-      subst (λ (x : code.Stage). Tells settled x ls store out (telling.On (at.Labels n f E A q) 0) ls store out) (sym u)
+      subst (λ (x : code.Stage). Tells settled x ls store out (runs.On (at.Labels n f E A q) 0) ls store out) (sym u)
       (record {
         ends = let w : Near (at.Labels n f E A q) = subst (λ (x : code.Stage). Near x) u near in ((w.0, w.1, h), nothing_said out);
         is = λ m means. (m, means, rw (lt-ltb q n h));
       })
 
-  pub rests : (st : code.Stage) → At (0 ∷ 1 ∷ 2 ∷ 3 ∷ 5 ∷ []) st → Near st → Tells settled st ls store out (telling.On st 0) ls store out
+  pub rests : (st : code.Stage) → At (0 ∷ 1 ∷ 2 ∷ 3 ∷ 5 ∷ []) st → Near st → Tells settled st ls store out (runs.On st 0) ls store out
   rests at.Qubits h near = record { ends = (near, nothing_said out); is = λ m means. (m, means, refl) }
   rests (at.Form n) h near = record { ends = (near, nothing_said out); is = λ m means. (m, means, refl) }
   rests (at.Events n f) h near = record { ends = (near, nothing_said out); is = λ m means. (m, means, refl) }
@@ -308,7 +306,7 @@ module _ (ls store out : List ℕ) where
   pub Near-labels : (st : code.Stage) (n : ℕ) (f : forms.Form) (E A q : ℕ) → st ≡ at.Labels n f E A q → Near st → (n ≤ 32) × (E ≤ 48) × (q ≤ n)
   Near-labels st n f E A q u near = subst (λ (x : code.Stage). Near x) u near
 
-  pub all_labels : (st : code.Stage) (n : ℕ) (f : forms.Form) (E A q : ℕ) (r : Told) (store' out' : List ℕ) → st ≡ at.Labels n f E A q → n ≤ q → Near st
+  pub all_labels : (st : code.Stage) (n : ℕ) (f : forms.Form) (E A q : ℕ) (r : Ran code.Stage) (store' out' : List ℕ) → st ≡ at.Labels n f E A q → n ≤ q → Near st
       → Tells settled (at.Labels n f E A n) ls store out r ls store' out' → Tells settled st ls store out r ls store' out'
   all_labels st n f E A q r store' out' u h near t =
       let w : Near (at.Labels n f E A q) = Near-labels st n f E A q u near in
@@ -325,32 +323,32 @@ Near-Means (at.Steps n f E) h store m = tt
 Near-Means (at.Labels n f E A q) h store m = tt
 Near-Means (at.Running e l) h store m = absurd h
 
-module _ (ln : ℕ) (st : code.Stage) (l : Line) (ls store out : List ℕ) (k : Took) (ls' : List ℕ) (takes : Takes st ls l k ls') where
-  Took-is : (x : Took) → k ≡ x → Takes st ls l x ls'
-  Took-is x e = subst (λ (y : Took). Takes st ls l y ls') e takes
+module _ (ln : ℕ) (st : code.Stage) (l : Line) (ls store out : List ℕ) (k : Option code.Stage) (ls' : List ℕ) (takes : Takes st ls l k ls') where
+  Took-is : (x : Option code.Stage) → k ≡ x → Takes st ls l x ls'
+  Took-is x e = subst (λ (y : Option code.Stage). Takes st ls l y ls') e takes
 
-  pub took-Near : (s : code.Stage) → k ≡ took.Next s → Near s
-  took-Near s e = (Took-is (took.Next s) e).near
+  pub took-Near : (s : code.Stage) → k ≡ Some s → Near s
+  took-Near s e = (Took-is (Some s) e).near
 
-  pub goes_on : (s : code.Stage) (r : Told) (store' out' : List ℕ) → k ≡ took.Next s → Tells settled s ls' store out r ls' store' out'
+  pub goes_on : (s : code.Stage) (r : Ran code.Stage) (store' out' : List ℕ) → k ≡ Some s → Tells settled s ls' store out r ls' store' out'
       → Tells (begun ln l) st ls store out r ls' store' out'
   goes_on s r store' out' e t = record {
     ends = t.ends;
     is = λ m means.
         let d = t.is m (Near-Means s (took-Near s e) store m) in
-        (d.0, d.1, ap (led ln) ((Took-is (took.Next s) e).is m) ∙ d.2);
+        (d.0, d.1, ap (led ln) ((Took-is (Some s) e).is m) ∙ d.2);
   }
 
-  pub goes_wrong : (n : ℕ) (out' : List ℕ) → k ≡ took.Wrong → 128 ≤ length out → Wrote out 0 (spoken (bad ln)) out' n
-      → Tells (begun ln l) st ls store out (telling.Stop n) ls' store out'
+  pub goes_wrong : (n : ℕ) (out' : List ℕ) → k ≡ None → 128 ≤ length out → Wrote out 0 (spoken (bad ln)) out' n
+      → Tells (begun ln l) st ls store out (runs.Stop n) ls' store out'
   goes_wrong n out' e wide w = record {
     ends = said_of (bad ln) out out' n w wide;
-    is = λ m means. (m, tt, ap (led ln) ((Took-is took.Wrong e).is m) ∙ ap stop (sym (said_is (bad ln) out out' n w wide)));
+    is = λ m means. (m, tt, ap (led ln) ((Took-is None e).is m) ∙ ap stop (sym (said_is (bad ln) out out' n w wide)));
   }
 
 -- ---- any line
 
-module _ (ln : ℕ) (st : code.Stage) (l : Line) (ls store out : List ℕ) (r : Told) (ls' store' out' : List ℕ) where
+module _ (ln : ℕ) (st : code.Stage) (l : Line) (ls store out : List ℕ) (r : Ran code.Stage) (ls' store' out' : List ℕ) where
   pub obeys_open : (e v : ℕ) → st ≡ at.Running e v → ls' ≡ ls → Does (operated ln l) e v store out r store' out'
       → Tells (obeyed ln l) st ls store out r ls' store' out'
   obeys_open e v u same d =
@@ -373,7 +371,7 @@ module _ (ln : ℕ) (st : code.Stage) (l : Line) (ls store out : List ℕ) (r : 
   answers_line p q u e t = subst (λ (x : Option Line). Tells (answered ln x) st ls store out r ls' store' out') (sym e ∙ u) t
 
 pub answers_bad : (ln : ℕ) (st : code.Stage) (ls store out : List ℕ) (n : ℕ) (out' : List ℕ) (p q : Option Line) → q ≡ p → q ≡ None → 128 ≤ length out
-    → Wrote out 0 (spoken (bad ln)) out' n → Tells (answered ln p) st ls store out (telling.Stop n) ls store out'
+    → Wrote out 0 (spoken (bad ln)) out' n → Tells (answered ln p) st ls store out (runs.Stop n) ls store out'
 answers_bad ln st ls store out n out' p q u e wide w =
-    subst (λ (x : Option Line). Tells (answered ln x) st ls store out (telling.Stop n) ls store out') (sym e ∙ u)
+    subst (λ (x : Option Line). Tells (answered ln x) st ls store out (runs.Stop n) ls store out') (sym e ∙ u)
     (record { ends = said_of (bad ln) out out' n w wide; is = λ m means. (m, tt, ap stop (sym (said_is (bad ln) out out' n w wide))) })

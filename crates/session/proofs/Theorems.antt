@@ -15,11 +15,13 @@ use Rattle.model.specs.Calls.{is_too_wide, open_number, open_answer, opening}
 use Rattle.text.specs.Spoken.{spoken}
 use Rattle.text.proofs.Room.{spoken-Whole}
 use Rattle.session.specs.Session.{room, Next, on, stop, Place, start, heard, saying, and_then, ran, last_saying, whole, output}
-use Rattle.session.specs.Desk.{Means, place_of, place_ran, MeansRan, last_of, Begins}
+use Rattle.session.specs.Desk.{Means, place_of, Plays, last_of, Begins}
 use Rattle.session.specs.Blocks.{joined, Left, Follows, Serves}
 use Rattle.session.specs.declared.stages.Talk.{Talk}
-use Rattle.session.specs.declared.run.Ran.{Ran}
-use Rattle.session.specs.declared.run.Ran.TheVariants as runs
+use Rattle.session.specs.declared.stages.Ran.{Ran}
+use Rattle.session.specs.declared.stages.Ran.TheVariants as runs
+use Rattle.session.specs.declared.run.Unfit.{Unfit}
+use Rattle.std.specs.Prelude.{Result, Ok, Err, IsOkAnd}
 use Rattle.session.proofs.Playing.{saying_none, saying_both, last_is}
 use Rattle.session.proofs.Serving.{nothing, start_Means, start_place}
 
@@ -66,17 +68,19 @@ stops a b t e = ap whole (ran_append start a b ∙ ap (λ (x : Next Place). and_
 
 -- ---- the code
 
-after_block : (t : Talk) (buf ls : List ℕ) (m : State) (b more : List ℕ) (left : Left) (said : List ℕ) (After : (t : Talk) → (rest : List ℕ) → Type 0)
+after_block : (t : Talk) (buf ls store out : List ℕ) (m : State) → Means t.stage store m → (b more : List ℕ) (left : Left) (said : List ℕ) (After : (t : Talk) → (rest : List ℕ) → Type 0)
     → ((t' : Talk) (rest : List ℕ) → After t' rest → (m' : State) → Means t'.stage left.store m' → rest ≡ whole (ran (place_of t' left.buf left.labels m') more))
-    → (r : Ran) → Follows r left.out said After → (m' : State) → MeansRan r left.store m'
-    → ran (place_of t buf ls m) b ≡ place_ran r left.buf left.labels left.out m' → said ≡ whole (ran (place_of t buf ls m) (b ++ more))
-after_block t buf ls m b more left said After same (runs.On t' n) f m' k e =
-    f.1 ∙ ap (λ (z : List ℕ). take n left.out ++ z) (same t' f.0 f.2 m' k)
-    ∙ sym (ap whole (ran_append (place_of t buf ls m) b more ∙ ap (λ (x : Next Place). and_then x (λ z. ran z more)) e)
-    ∙ whole-saying (take n left.out) (ran (place_of t' left.buf left.labels m') more))
-after_block t buf ls m b more left said After same (runs.Stop n) f m' k e =
-    f ∙ sym (ap whole (ran_append (place_of t buf ls m) b more ∙ ap (λ (x : Next Place). and_then x (λ z. ran z more)) e))
-after_block t buf ls m b more left said After same runs.Unfit f m' k e = absurd f
+    → (r : Result (Ran Talk) Unfit) → Follows r left.out said After → IsOkAnd r (λ x. Plays t b buf ls store out x left.buf left.labels left.store left.out)
+    → said ≡ whole (ran (place_of t buf ls m) (b ++ more))
+after_block t buf ls store out m means b more left said After same (Ok (runs.On t' n)) f plays =
+    let p = plays.is m means in
+    f.1 ∙ ap (λ (z : List ℕ). take n left.out ++ z) (same t' f.0 f.2 p.0 p.1)
+    ∙ sym (ap whole (ran_append (place_of t buf ls m) b more ∙ ap (λ (x : Next Place). and_then x (λ z. ran z more)) p.2)
+    ∙ whole-saying (take n left.out) (ran (place_of t' left.buf left.labels p.0) more))
+after_block t buf ls store out m means b more left said After same (Ok (runs.Stop n)) f plays =
+    let p = plays.is m means in
+    f ∙ sym (ap whole (ran_append (place_of t buf ls m) b more ∙ ap (λ (x : Next Place). and_then x (λ z. ran z more)) p.2))
+after_block t buf ls store out m means b more left said After same (Err e) f plays = absurd f
 
 serves_on : (bs : List (List ℕ)) (t : Talk) (buf ls store said : List ℕ) → Serves t buf ls store bs said → (m : State) → Means t.stage store m
     → said ≡ whole (ran (place_of t buf ls m) (joined bs))
@@ -84,9 +88,8 @@ unfolding joined ran
 serves_on [] t buf ls store said h m means =
     h.7 ∙ (spoken-Whole h.0 (last_of t) h.1 h.2 (h.3.near h.5) h.4).start ∙ ap spoken (last_is t buf ls store m h.6 means)
 serves_on (b ∷ bs) t buf ls store said h m means =
-    let p = (h.3.fit h.2).is m means in
-    after_block t buf ls m b (joined bs) h.1 said (λ t' rest. Serves t' h.1.buf h.1.labels h.1.store bs rest)
-    (λ t' rest k m' v. serves_on bs t' h.1.buf h.1.labels h.1.store rest k m' v) h.1.ran h.4 p.0 p.1 p.2
+    after_block t buf ls store h.0 m means b (joined bs) h.1 said (λ t' rest. Serves t' h.1.buf h.1.labels h.1.store bs rest)
+    (λ t' rest k m' v. serves_on bs t' h.1.buf h.1.labels h.1.store rest k m' v) h.1.ran h.4 (h.3.fit h.2)
 
 -- what a session hands out in all to an input in blocks is `output` of the input
 pub Serves-output : (bs : List (List ℕ)) (t : Talk) (buf ls store said : List ℕ) → Begins t → Serves t buf ls store bs said → said ≡ output (joined bs)

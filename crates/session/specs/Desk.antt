@@ -1,6 +1,6 @@
 -- What the values and the lent words of the code stand for in the session, and the promises of its functions. m is the state that the store holds; where a
 -- job has opened none yet, any. Assumes nothing.
-use Rattle.std.specs.Prelude.{ℕ, ◌+◌, ◌-◌, ◌*◌, ◌^◌, ◌≤◌, ◌<◌, ◌≡◌, cond, eqb, List, [], length, take, drop}
+use Rattle.std.specs.Prelude.{ℕ, ◌+◌, ◌-◌, ◌*◌, ◌^◌, ◌≤◌, ◌<◌, ◌≡◌, cond, eqb, List, length, take, drop, Option, Some, None, Result, Ok, Err, IsErr, IsOkAnd}
 use Rattle.model.specs.Events.{State}
 use Rattle.model.specs.Calls.{Reply, refused, accepted, recorded, says, looked, tally}
 use Rattle.history.specs.Sizes.{form_of}
@@ -14,16 +14,9 @@ use Rattle.session.specs.Session.{Stage, qubits, form, events, steps, labelling,
 use Rattle.session.specs.declared.stages.Stage as code
 use Rattle.session.specs.declared.stages.Stage.TheVariants as at
 use Rattle.session.specs.declared.stages.Talk.{Talk}
-use Rattle.session.specs.declared.header.Took.{Took}
-use Rattle.session.specs.declared.header.Took.TheVariants as took
-use Rattle.session.specs.declared.desk.Told.{Told}
-use Rattle.session.specs.declared.desk.Told.TheVariants as told
-use Rattle.session.specs.declared.run.Heard.{Heard}
-use Rattle.session.specs.declared.run.Heard.TheVariants as hears
-use Rattle.session.specs.declared.run.Ran.{Ran}
-use Rattle.session.specs.declared.run.Ran.TheVariants as runs
-use Rattle.session.specs.declared.run.Served.{Served}
-use Rattle.session.specs.declared.run.Served.TheVariants as served
+use Rattle.session.specs.declared.stages.Ran.{Ran}
+use Rattle.session.specs.declared.stages.Ran.TheVariants as runs
+use Rattle.session.specs.declared.run.Unfit.{Unfit}
 
 -- ---- stages
 
@@ -70,28 +63,24 @@ Within (at.Running e l) = Unit {0}
 
 -- ---- a header or label line
 
-abbrev pub head_of : Took → (labels : List ℕ) → State → Headed
-head_of (took.Next s) ls m = next (stage_of s ls m)
-head_of took.Wrong ls m = none
+abbrev pub head_of : Option code.Stage → (labels : List ℕ) → State → Headed
+head_of (Some s) ls m = next (stage_of s ls m)
+head_of None ls m = none
 
-abbrev pub NearTook : Took → Type 0
-NearTook (took.Next s) = Near s
-NearTook took.Wrong = Unit {0}
+abbrev pub NearTook : Option code.Stage → Type 0
+NearTook (Some s) = Near s
+NearTook None = Unit {0}
 
 -- from the stage st and the labels ls, the line l leads to r and the labels ls'
-pub record Takes (st : code.Stage) (ls : List ℕ) (l : Line) (r : Took) (ls' : List ℕ) : Type 0 where
+pub record Takes (st : code.Stage) (ls : List ℕ) (l : Line) (r : Option code.Stage) (ls' : List ℕ) : Type 0 where
   pub near : NearTook r
   pub is : (m : State) → headed (stage_of st ls m) l ≡ head_of r ls' m
 
--- a header line leaves the labels
-abbrev pub TakesHead : code.Stage → Line → Took → Type 0
-TakesHead st l r = (ls : List ℕ) → Takes st ls l r ls
-
 -- ---- any line
 
-abbrev pub stage_next : Told → (labels out : List ℕ) → State → Next Stage
-stage_next (told.On s n) ls out m = on (stage_of s ls m) (take n out)
-stage_next (told.Stop n) ls out m = stop (take n out)
+abbrev pub stage_next : Ran code.Stage → (labels out : List ℕ) → State → Next Stage
+stage_next (runs.On s n) ls out m = on (stage_of s ls m) (take n out)
+stage_next (runs.Stop n) ls out m = stop (take n out)
 
 -- the n bytes that are said are there
 pub record Inside (n : ℕ) (out : List ℕ) : Type 0 where
@@ -108,16 +97,16 @@ pub record Said (n : ℕ) (out out' : List ℕ) : Type 0 where
   pub fresh : Fresh n out out'
   pub few : n ≤ 128
 
-abbrev pub Ends : Told → (out out' : List ℕ) → Type 0
-Ends (told.On s n) out out' = Within s × Said n out out'
-Ends (told.Stop n) out out' = Said n out out'
+abbrev pub Ends : Ran code.Stage → (out out' : List ℕ) → Type 0
+Ends (runs.On s n) out out' = Within s × Said n out out'
+Ends (runs.Stop n) out out' = Said n out out'
 
-abbrev pub MeansTold : Told → (store : List ℕ) → State → Type 0
-MeansTold (told.On s n) store m = Means s store m
-MeansTold (told.Stop n) store m = Unit {0}
+abbrev pub MeansTold : Ran code.Stage → (store : List ℕ) → State → Type 0
+MeansTold (runs.On s n) store m = Means s store m
+MeansTold (runs.Stop n) store m = Unit {0}
 
 -- from the stage st, the labels ls and the words of the store, `f` of the session happens: r, and what stands in the slices then
-pub record Tells (f : Stage → Next Stage) (st : code.Stage) (ls store out : List ℕ) (r : Told) (ls' store' out' : List ℕ) : Type 0 where
+pub record Tells (f : Stage → Next Stage) (st : code.Stage) (ls store out : List ℕ) (r : Ran code.Stage) (ls' store' out' : List ℕ) : Type 0 where
   pub ends : Ends r out out'
   pub is : (m : State) → Means st store m → (m' : State) × MeansTold r store' m' × (f (stage_of st ls m) ≡ stage_next r ls' out' m')
 
@@ -159,7 +148,7 @@ pub record Counts (c : Call) (r : Reply) (e l : ℕ) (s : code.Stage) : Type 0 w
   pub running : (e' : ℕ) × (l' : ℕ) × (s ≡ at.Running e' l')
 
 -- from a store that holds m, `f` of the session happens
-pub record Does (f : State → Next Stage) (e l : ℕ) (store out : List ℕ) (r : Told) (store' out' : List ℕ) : Type 0 where
+pub record Does (f : State → Next Stage) (e l : ℕ) (store out : List ℕ) (r : Ran code.Stage) (store' out' : List ℕ) : Type 0 where
   pub ends : Ends r out out'
   pub is : (m : State) → Running e l store m → (m' : State) × MeansTold r store' m' × ((ls : List ℕ) → f m ≡ stage_next r ls out' m')
 
@@ -176,22 +165,22 @@ pub record Sized (t : Talk) (buf labels store : List ℕ) : Type 0 where
   pub held : t.held ≤ 80
   pub within : Within t.stage
 
-abbrev pub place_next : Heard → (buf labels out : List ℕ) → State → Next Place
-place_next (hears.On t n) buf ls out m = on (place_of t buf ls m) (take n out)
-place_next (hears.Stop n) buf ls out m = stop (take n out)
+abbrev pub place_next : Ran Talk → (buf labels out : List ℕ) → State → Next Place
+place_next (runs.On t n) buf ls out m = on (place_of t buf ls m) (take n out)
+place_next (runs.Stop n) buf ls out m = stop (take n out)
 
-abbrev pub EndsHeard : Heard → (buf labels store out out' : List ℕ) → (line : ℕ) → Type 0
-EndsHeard (hears.On t n) buf ls store out out' line = Sized t buf ls store × (t.line ≤ line + 1) × Said n out out'
-EndsHeard (hears.Stop n) buf ls store out out' line = Said n out out'
+abbrev pub EndsHeard : Ran Talk → (buf labels store out out' : List ℕ) → (line : ℕ) → Type 0
+EndsHeard (runs.On t n) buf ls store out out' line = Sized t buf ls store × (t.line ≤ line + 1) × Said n out out'
+EndsHeard (runs.Stop n) buf ls store out out' line = Said n out out'
 
-abbrev pub MeansHeard : Heard → (store : List ℕ) → State → Type 0
-MeansHeard (hears.On t n) store m = Means t.stage store m
-MeansHeard (hears.Stop n) store m = Unit {0}
+abbrev pub MeansRan : Ran Talk → (store : List ℕ) → State → Type 0
+MeansRan (runs.On t n) store m = Means t.stage store m
+MeansRan (runs.Stop n) store m = Unit {0}
 
 -- one byte
-pub record Hears (t : Talk) (buf ls store out : List ℕ) (b : ℕ) (r : Heard) (buf' ls' store' out' : List ℕ) : Type 0 where
+pub record Hears (t : Talk) (buf ls store out : List ℕ) (b : ℕ) (r : Ran Talk) (buf' ls' store' out' : List ℕ) : Type 0 where
   pub ends : EndsHeard r buf' ls' store' out out' t.line
-  pub is : (m : State) → Means t.stage store m → (m' : State) × MeansHeard r store' m' × (heard (place_of t buf ls m) b ≡ place_next r buf' ls' out' m')
+  pub is : (m : State) → Means t.stage store m → (m' : State) × MeansRan r store' m' × (heard (place_of t buf ls m) b ≡ place_next r buf' ls' out' m')
 
 -- what `run` asks: those sizes, 128 bytes of out for each byte of the input, and a number of lines that is far from 2^64
 pub record Fits (t : Talk) (input buf labels store out : List ℕ) : Type 0 where
@@ -199,44 +188,31 @@ pub record Fits (t : Talk) (input buf labels store out : List ℕ) : Type 0 wher
   pub room : 128 * length input ≤ length out
   pub lines : t.line ≤ 2 ^ 62
 
-abbrev pub place_ran : Ran → (buf labels out : List ℕ) → State → Next Place
-place_ran (runs.On t n) buf ls out m = on (place_of t buf ls m) (take n out)
-place_ran (runs.Stop n) buf ls out m = stop (take n out)
--- any will do: `EndsRan` excludes it
-place_ran runs.Unfit buf ls out m = stop []
-
-abbrev pub EndsRan : Ran → (buf labels store out out' : List ℕ) → (lines : ℕ) → Type 0
+abbrev pub EndsRan : Ran Talk → (buf labels store out out' : List ℕ) → (lines : ℕ) → Type 0
 EndsRan (runs.On t n) buf ls store out out' lines = Sized t buf ls store × (t.line ≤ lines) × Fresh n out out'
 EndsRan (runs.Stop n) buf ls store out out' lines = Fresh n out out'
-EndsRan runs.Unfit buf ls store out out' lines = ⊥
-
-abbrev pub MeansRan : Ran → (store : List ℕ) → State → Type 0
-MeansRan (runs.On t n) store m = Means t.stage store m
-MeansRan (runs.Stop n) store m = Unit {0}
-MeansRan runs.Unfit store m = Unit {0}
 
 -- at most 128 bytes are said to each byte of the input
-abbrev pub RoomRan : Ran → (bytes : ℕ) → Type 0
+abbrev pub RoomRan : Ran Talk → (bytes : ℕ) → Type 0
 RoomRan (runs.On t n) bytes = n ≤ 128 * bytes
 RoomRan (runs.Stop n) bytes = n ≤ 128 * bytes
-RoomRan runs.Unfit bytes = Unit {0}
 
 -- some bytes, on slices that fit
-pub record Plays (t : Talk) (input buf ls store out : List ℕ) (r : Ran) (buf' ls' store' out' : List ℕ) : Type 0 where
+pub record Plays (t : Talk) (input buf ls store out : List ℕ) (r : Ran Talk) (buf' ls' store' out' : List ℕ) : Type 0 where
   pub ends : EndsRan r buf' ls' store' out out' (t.line + length input)
   pub few : RoomRan r (length input)
-  pub is : (m : State) → Means t.stage store m → (m' : State) × MeansRan r store' m' × (ran (place_of t buf ls m) input ≡ place_ran r buf' ls' out' m')
+  pub is : (m : State) → Means t.stage store m → (m' : State) × MeansRan r store' m' × (ran (place_of t buf ls m) input ≡ place_next r buf' ls' out' m')
 
-abbrev pub InsideRan : Ran → (out : List ℕ) → Type 0
-InsideRan (runs.On t n) out = Inside n out
-InsideRan (runs.Stop n) out = Inside n out
-InsideRan runs.Unfit out = Unit {0}
+abbrev pub InsideRan : Result (Ran Talk) Unfit → (out : List ℕ) → Type 0
+InsideRan (Ok (runs.On t n)) out = Inside n out
+InsideRan (Ok (runs.Stop n)) out = Inside n out
+InsideRan (Err e) out = Unit {0}
 
 -- The promise of `run`, on any slices: on those that do not fit nothing is done. `inside` follows, as it does in `Lasts`.
-pub record Runs (t : Talk) (input buf ls store out : List ℕ) (r : Ran) (buf' ls' store' out' : List ℕ) : Type 0 where
+pub record Runs (t : Talk) (input buf ls store out : List ℕ) (r : Result (Ran Talk) Unfit) (buf' ls' store' out' : List ℕ) : Type 0 where
   pub inside : InsideRan r out'
-  pub fit : Fits t input buf ls store out → Plays t input buf ls store out r buf' ls' store' out'
-  pub unfit : (Fits t input buf ls store out → ⊥) → (r ≡ runs.Unfit) × (buf' ≡ buf) × (ls' ≡ ls) × (store' ≡ store) × (out' ≡ out)
+  pub fit : Fits t input buf ls store out → IsOkAnd r (λ x. Plays t input buf ls store out x buf' ls' store' out')
+  pub unfit : (Fits t input buf ls store out → ⊥) → IsErr r × (buf' ≡ buf) × (ls' ≡ ls) × (store' ≡ store) × (out' ≡ out)
 
 -- what the end of the input is told, from the talk alone (`last_is`: it is `last_saying` of the session)
 abbrev pub closing : (line : ℕ) → code.Stage → Saying
@@ -250,7 +226,7 @@ closing line (at.Running e l) = end line (record { events = e; live = l })
 unfoldable pub last_of : Talk → Saying
 last_of t = cond (eqb t.held 0) (closing t.line t.stage) (bad (t.line + 1))
 
--- The promise of `last`, on any talk. Past 2^62 lines, where `run` says `Unfit`, nothing is written. `inside` follows, and is what a caller needs of `&out[..n]`.
+-- The promise of `last`, on any talk. Past 2^62 lines, where `run` is `Unfit`, nothing is written. `inside` follows, and is what a caller needs of `&out[..n]`.
 pub record Lasts (t : Talk) (out : List ℕ) (n : ℕ) (out' : List ℕ) : Type 0 where
   pub inside : Inside n out'
   pub near : t.line ≤ 2 ^ 62 → Wrote out 0 (spoken (last_of t)) out' n
@@ -260,6 +236,6 @@ abbrev pub Begins : Talk → Type 0
 Begins t = (t.line ≡ 0) × (t.held ≡ 0) × (t.stage ≡ at.Qubits)
 
 -- the promise of `serve`: a whole input, in out of 128 bytes for each byte of it and 128 more
-pub record ServesAll (input out : List ℕ) (r : Served) (out' : List ℕ) : Type 0 where
-  pub fit : 128 * (length input + 1) ≤ length out → (n : ℕ) × (r ≡ served.All n) × Fresh n out out' × (take n out' ≡ output input)
-  pub unfit : length out < 128 * (length input + 1) → (r ≡ served.Unfit) × (out' ≡ out)
+pub record ServesAll (input out : List ℕ) (r : Result ℕ Unfit) (out' : List ℕ) : Type 0 where
+  pub fit : 128 * (length input + 1) ≤ length out → (n : ℕ) × (r ≡ Ok n) × Fresh n out out' × (take n out' ≡ output input)
+  pub unfit : length out < 128 * (length input + 1) → IsErr r × (out' ≡ out)

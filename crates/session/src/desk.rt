@@ -9,21 +9,14 @@ ghost use Rattle.session.specs.declared.stages.Stage.TheVariants as at;
 ghost use Rattle.session.specs.Session.{settled, begun, answered_by, operated, obeyed, answered, room};
 ghost use Rattle.session.specs.Desk.{Near, Within, records_of, kills_of, Counts, Tells, Does};
 
-use super::header::{Took, take_line};
-use super::stages::Stage;
+use super::header::take_line;
+use super::stages::{Ran, Stage};
 use frame::axes::Kind;
 use history::forms::Form;
 use partner::calls::{Call, apply, look, open};
 use store::answers::Answer;
 use text::answers::{write_answer, write_bad, write_not_opened, write_sight};
 use text::lines::{Line, read_line};
-
-// To go on from a stage, or to stop; with how many bytes are said.
-#[derive(Clone, Copy)]
-pub enum Told {
-    On(Stage, usize),
-    Stop(usize),
-}
 
 // ---- the opening
 
@@ -36,19 +29,19 @@ fn try_open(
     labels: &[u64],
     store: &mut [u64],
     out: &mut [u8],
-) -> Told
+) -> Ran<Stage>
     requires { (n ≤ 32) × (events ≤ 48) × (length labels.now ≡ 128) × (length store.old ≡ room) × (128 ≤ length out.old) }
     ensures { Tells settled (at.Labels n form events steps n) labels.now store.old out.old result labels.now store.new out.new }
 {
     let end = 4 * n;
     match open(store, n, events, steps, form, &labels[..end]) {
-        Answer::Refused(k) => Told::Stop(write_not_opened(k, out)),
-        _ => Told::On(Stage::Running { events: 0, live: 0 }, 0),
+        Answer::Refused(k) => Ran::Stop(write_not_opened(k, out)),
+        _ => Ran::On(Stage::Running { events: 0, live: 0 }, 0),
     }
 }
 
 // Goes on to a stage, through the opening if all labels are read.
-fn settle(stage: Stage, labels: &[u64], store: &mut [u64], out: &mut [u8]) -> Told
+fn settle(stage: Stage, labels: &[u64], store: &mut [u64], out: &mut [u8]) -> Ran<Stage>
     requires { Near stage × (length labels.now ≡ 128) × (length store.old ≡ room) × (128 ≤ length out.old) }
     ensures { Tells settled stage labels.now store.old out.old result labels.now store.new out.new }
 {
@@ -61,11 +54,11 @@ fn settle(stage: Stage, labels: &[u64], store: &mut [u64], out: &mut [u8]) -> To
             q,
         } => {
             if q < n {
-                return Told::On(stage, 0);
+                return Ran::On(stage, 0);
             }
             try_open(n, form, events, steps, labels, store, out)
         }
-        _ => Told::On(stage, 0),
+        _ => Ran::On(stage, 0),
     }
 }
 
@@ -146,14 +139,21 @@ fn less(a: u64, b: u64) -> u64
 }
 
 // A call that writes.
-fn do_call(line: u64, events: u64, live: u64, c: Call, store: &mut [u64], out: &mut [u8]) -> Told
+fn do_call(
+    line: u64,
+    events: u64,
+    live: u64,
+    c: Call,
+    store: &mut [u64],
+    out: &mut [u8],
+) -> Ran<Stage>
     requires { (length store.old ≡ room) × (128 ≤ length out.old) }
     ensures { Does (answered_by line (call_in c)) events live store.old out.old result store.new out.new }
 {
     let a = apply(store, c);
     let stage = count(c, a, events, live);
     let n = write_answer(line, a, out);
-    Told::On(stage, n)
+    Ran::On(stage, n)
 }
 
 // A look.
@@ -165,13 +165,13 @@ fn do_look(
     q: usize,
     store: &[u64],
     out: &mut [u8],
-) -> Told
+) -> Ran<Stage>
     requires { (length store.now ≡ room) × (128 ≤ length out.old) }
     ensures { Does (answered_by line (call_look (kind_of kind) q)) events live store.now out.old result store.now out.new }
 {
     let s = look(store, kind, q);
     let n = write_sight(line, s, out);
-    Told::On(
+    Ran::On(
         Stage::Running {
             events: events,
             live: live,
@@ -181,14 +181,21 @@ fn do_look(
 }
 
 // A line once the store is open.
-fn operate(line: u64, events: u64, live: u64, l: Line, store: &mut [u64], out: &mut [u8]) -> Told
+fn operate(
+    line: u64,
+    events: u64,
+    live: u64,
+    l: Line,
+    store: &mut [u64],
+    out: &mut [u8],
+) -> Ran<Stage>
     requires { (length store.old ≡ room) × (128 ≤ length out.old) }
     ensures { Does (operated line l) events live store.old out.old result store.new out.new }
 {
     match l {
         Line::Call(c) => do_call(line, events, live, c, store, out),
         Line::Look { kind, q } => do_look(line, events, live, kind, q, store, out),
-        _ => Told::Stop(write_bad(line, out)),
+        _ => Ran::Stop(write_bad(line, out)),
     }
 }
 
@@ -202,13 +209,13 @@ fn begin(
     labels: &mut [u64],
     store: &mut [u64],
     out: &mut [u8],
-) -> Told
+) -> Ran<Stage>
     requires { Within stage × (length labels.old ≡ 128) × (length store.old ≡ room) × (128 ≤ length out.old) }
     ensures { Tells (begun line l) stage labels.old store.old out.old result labels.new store.new out.new }
 {
     match take_line(stage, l, labels) {
-        Took::Next(next) => settle(next, labels, store, out),
-        Took::Wrong => Told::Stop(write_bad(line, out)),
+        Some(next) => settle(next, labels, store, out),
+        None => Ran::Stop(write_bad(line, out)),
     }
 }
 
@@ -219,7 +226,7 @@ fn obey(
     labels: &mut [u64],
     store: &mut [u64],
     out: &mut [u8],
-) -> Told
+) -> Ran<Stage>
     requires { Within stage × (length labels.old ≡ 128) × (length store.old ≡ room) × (128 ≤ length out.old) }
     ensures { Tells (obeyed line l) stage labels.old store.old out.old result labels.new store.new out.new }
 {
@@ -237,12 +244,12 @@ pub fn answer(
     labels: &mut [u64],
     store: &mut [u64],
     out: &mut [u8],
-) -> Told
+) -> Ran<Stage>
     requires { Within stage × (length labels.old ≡ 128) × (length store.old ≡ room) × (128 ≤ length out.old) }
     ensures { Tells (answered line (reading_of s.now)) stage labels.old store.old out.old result labels.new store.new out.new }
 {
     match read_line(s) {
         Some(l) => obey(line, stage, l, labels, store, out),
-        None => Told::Stop(write_bad(line, out)),
+        None => Ran::Stop(write_bad(line, out)),
     }
 }

@@ -1,26 +1,35 @@
 // The bytes of a job, in blocks of any size: `start`, then `run` on each block, then `last` at the end of the input, unless it said to stop.
-ghost use Rattle.std.specs.Prelude.{◌+◌, ◌^◌, ◌≤◌, ◌<◌, ◌≡◌, true, false, length};
-ghost use Rattle.session.specs.declared.stages.Stage.TheVariants as at;
-ghost use Rattle.session.specs.Desk.{Sized, Hears, Fits, Plays, Runs, Lasts, Begins, Within, ServesAll};
+ghost use Rattle.std.specs.Prelude.{◌+◌, ◌^◌, ◌≤◌, ◌<◌, ◌↔◌, IsTrue, length};
+ghost use Rattle.session.specs.Desk.{Sized, Hears, Fits, Plays, Runs, Lasts, Begins, ServesAll};
 
-use super::desk::{Told, answer};
-use super::stages::{Stage, Talk};
+use super::desk::answer;
+use super::stages::{Ran, Stage, Talk};
+use std::error::Error;
+use std::fmt;
 use text::answers::{write_bad, write_end};
+use text::lines::LINE_BYTES;
 
-// To go on, or to stop; with how many bytes are said.
-#[derive(Drop)]
-enum Heard {
-    On(Talk, usize),
-    Stop(usize),
+// What `run` asks: a line's buffer, four words for each of 32 qubits, the words of the store, and room for what is said to a byte.
+pub const LABEL_WORDS: usize = 128;
+
+pub const STORE_WORDS: usize = 4401;
+
+pub const SAID_BYTES: usize = 128;
+
+// More lines are not counted, far from the last number of 64 bits.
+pub const MAX_LINES: u64 = 1 << 62;
+
+// `run` was lent slices of other sizes than it names, or a talk that is none of its own; `serve`, an output that is too short. Nothing was done.
+#[derive(Clone, Copy, Debug, PartialEq, Eq, Hash)]
+pub struct Unfit;
+
+impl fmt::Display for Unfit {
+    fn fmt<W: fmt::Write>(&self, f: &mut fmt::Formatter<W>) -> fmt::Result {
+        f.write_str("slices of other sizes than a session asks for")
+    }
 }
 
-// The same of a block; or `run` was lent slices of other sizes than it names, or a talk that is none of its own, and nothing was done.
-#[derive(Clone, Copy)]
-pub enum Ran {
-    On(Talk, usize),
-    Stop(usize),
-    Unfit,
-}
+impl Error for Unfit {}
 
 // The start of a job.
 pub fn start() -> Talk
@@ -41,100 +50,49 @@ fn hear(
     store: &mut [u64],
     out: &mut [u8],
     b: u8,
-) -> Heard
+) -> Ran<Talk>
     requires { Sized t buf.old labels.old store.old × (128 ≤ length out.old) × (t.line < 2 ^ 63) }
     ensures { Hears t buf.old labels.old store.old out.old b result buf.new labels.new store.new out.new }
 {
-    let stage = t.stage;
-    let held = t.held;
-    let line = t.line;
+    let Talk { line, held, stage } = t;
     if b == b'\n' {
         return match answer(line + 1, stage, &buf[..held], labels, store, out) {
-            Told::On(next, n) => Heard::On(
+            Ran::On(stage, n) => Ran::On(
                 Talk {
                     line: line + 1,
                     held: 0,
-                    stage: next,
+                    stage,
                 },
                 n,
             ),
-            Told::Stop(n) => Heard::Stop(n),
+            Ran::Stop(n) => Ran::Stop(n),
         };
     }
-    if held < 80 {
-        buf[held] = b;
-        return Heard::On(
-            Talk {
-                line: line,
-                held: held + 1,
-                stage: stage,
-            },
-            0,
-        );
+    if held >= LINE_BYTES {
+        return Ran::Stop(write_bad(line + 1, out));
     }
-    Heard::Stop(write_bad(line + 1, out))
-}
-
-// The numbers of a stage are in their ranges.
-fn in_range(stage: Stage) -> bool
-    ensures yes { result ≡ true → Within stage }
-    ensures no { result ≡ false → Within stage → ⊥ }
-{
-    match stage {
-        Stage::Qubits => true,
-        Stage::Form { n } => n <= 32,
-        Stage::Events { n, form: _ } => n <= 32,
-        Stage::Steps { n, form: _, events } => {
-            if n > 32 {
-                return false;
-            }
-            events <= 48
-        }
-        Stage::Labels {
-            n,
-            form: _,
-            events,
-            steps: _,
-            q,
-        } => {
-            if n > 32 {
-                return false;
-            }
-            if events > 48 {
-                return false;
-            }
-            q < n
-        }
-        Stage::Running { events: _, live: _ } => true,
-    }
+    buf[held] = b;
+    Ran::On(
+        Talk {
+            line,
+            held: held + 1,
+            stage,
+        },
+        0,
+    )
 }
 
 // The sizes that `run` asks for.
 fn fits(t: Talk, input: &[u8], buf: &[u8], labels: &[u64], store: &[u64], out: &[u8]) -> bool
-    ensures yes { result ≡ true → Fits t input.now buf.now labels.now store.now out.now }
-    ensures no { result ≡ false → Fits t input.now buf.now labels.now store.now out.now → ⊥ }
+    ensures { IsTrue result ↔ Fits t input.now buf.now labels.now store.now out.now }
 {
-    if buf.len() != 80 {
-        return false;
-    }
-    if labels.len() != 128 {
-        return false;
-    }
-    if store.len() != 4401 {
-        return false;
-    }
-    if input.len() > out.len() / 128 {
-        return false;
-    }
-    if t.held > 80 {
-        return false;
-    }
-    // 2^62, far from the last number of 64 bits
-    if t.line > 4611686018427387904 {
-        return false;
-    }
-    let stage = t.stage;
-    in_range(stage)
+    buf.len() == LINE_BYTES
+        && labels.len() == LABEL_WORDS
+        && store.len() == STORE_WORDS
+        && input.len() <= out.len() / SAID_BYTES
+        && t.held <= LINE_BYTES
+        && t.line <= MAX_LINES
+        && t.stage.is_in_range()
 }
 
 // The bytes of a block, on slices that fit.
@@ -145,24 +103,20 @@ fn play(
     labels: &mut [u64],
     store: &mut [u64],
     out: &mut [u8],
-) -> Ran
+) -> Ran<Talk>
     requires { Fits from input.now buf.old labels.old store.old out.old }
     ensures { Plays from input.now buf.old labels.old store.old out.old result buf.new labels.new store.new out.new }
 {
     let mut t = from;
-    let mut at: usize = 0;
-    let mut i: usize = 0;
-    while i < input.len() {
-        match hear(t, buf, labels, store, &mut out[at..], input[i]) {
-            Heard::On(next, n) => {
+    let mut at = 0;
+    for &b in input {
+        match hear(t, buf, labels, store, &mut out[at..], b) {
+            Ran::On(next, n) => {
                 t = next;
                 at += n;
             }
-            Heard::Stop(n) => {
-                return Ran::Stop(at + n);
-            }
+            Ran::Stop(n) => return Ran::Stop(at + n),
         }
-        i += 1;
     }
     Ran::On(t, at)
 }
@@ -176,13 +130,13 @@ pub fn run(
     labels: &mut [u64],
     store: &mut [u64],
     out: &mut [u8],
-) -> Ran
+) -> Result<Ran<Talk>, Unfit>
     ensures { Runs t input.now buf.old labels.old store.old out.old result buf.new labels.new store.new out.new }
 {
     if !fits(t, input, buf, labels, store, out) {
-        return Ran::Unfit;
+        return Err(Unfit);
     }
-    play(t, input, buf, labels, store, out)
+    Ok(play(t, input, buf, labels, store, out))
 }
 
 // Writes what is said at the end of the input, into 128 bytes of out or as much as there is; past 2^62 lines nothing.
@@ -190,42 +144,27 @@ pub fn last(t: Talk, out: &mut [u8]) -> usize
     ensures { Lasts t out.old result out.new }
 {
     let line = t.line;
-    if line > 4611686018427387904 {
+    if line > MAX_LINES {
         return 0;
     }
-    if t.held > 0 {
-        return write_bad(line + 1, out);
-    }
-    let stage = t.stage;
-    match stage {
-        Stage::Running { events, live } => write_end(line, events, live, out),
+    match t.stage {
+        Stage::Running { events, live } if t.held == 0 => write_end(line, events, live, out),
         _ => write_bad(line + 1, out),
     }
 }
 
-// How many bytes were said to a whole input; or out is too short, and nothing was done.
-#[derive(Clone, Copy)]
-pub enum Served {
-    All(usize),
-    Unfit,
-}
-
-// A whole job at once. Lent is out: 128 bytes for each byte of the input, and 128 more.
-pub fn serve(input: &[u8], out: &mut [u8]) -> Served
+// A whole job at once: how many bytes were said to it. Lent is out: 128 bytes for each byte of the input, and 128 more.
+pub fn serve(input: &[u8], out: &mut [u8]) -> Result<usize, Unfit>
     ensures { ServesAll input.now out.old result out.new }
 {
-    if input.len() >= out.len() / 128 {
-        return Served::Unfit;
+    if input.len() >= out.len() / SAID_BYTES {
+        return Err(Unfit);
     }
-    let mut buf = [0u8; 80];
-    let mut labels = [0u64; 128];
-    let mut store = [0u64; 4401];
-    match run(start(), input, &mut buf, &mut labels, &mut store, out) {
-        Ran::On(t, n) => {
-            let k = last(t, &mut out[n..]);
-            Served::All(n + k)
-        }
-        Ran::Stop(n) => Served::All(n),
-        Ran::Unfit => Served::Unfit,
+    let mut buf = [0u8; LINE_BYTES];
+    let mut labels = [0u64; LABEL_WORDS];
+    let mut store = [0u64; STORE_WORDS];
+    match run(start(), input, &mut buf, &mut labels, &mut store, out)? {
+        Ran::On(t, n) => Ok(n + last(t, &mut out[n..])),
+        Ran::Stop(n) => Ok(n),
     }
 }

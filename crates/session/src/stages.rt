@@ -1,5 +1,12 @@
 // Where a job stands, by value.
+ghost use Rattle.std.specs.Prelude.{◌↔◌, IsTrue};
+
 use history::forms::Form;
+
+// What this program takes: so many qubits, so many events.
+pub const MAX_QUBITS: usize = 32;
+
+pub const MAX_EVENTS: usize = 48;
 
 // Which line comes next, with what the lines before it gave.
 #[derive(Clone, Copy)]
@@ -32,10 +39,35 @@ pub enum Stage {
     },
 }
 
+impl Stage {
+    ghost use Rattle.session.specs.Desk.{Within};
+
+    // Its numbers are in their ranges.
+    pub fn is_in_range(self) -> bool
+        ensures { IsTrue result ↔ Within self }
+    {
+        match self {
+            Stage::Qubits | Stage::Running { .. } => true,
+            Stage::Form { n } | Stage::Events { n, .. } => n <= MAX_QUBITS,
+            Stage::Steps { n, events, .. } => n <= MAX_QUBITS && events <= MAX_EVENTS,
+            Stage::Labels { n, events, q, .. } => {
+                n <= MAX_QUBITS && events <= MAX_EVENTS && q < n
+            }
+        }
+    }
+}
+
 // How many lines are finished, how many bytes of the next are held in the lent line buffer, and the stage.
 #[derive(Clone, Copy)]
 pub struct Talk {
     pub line: u64,
     pub held: usize,
     pub stage: Stage,
+}
+
+// A job goes on from there, or stops; with how many bytes are said.
+#[derive(Clone, Copy)]
+pub enum Ran<T> {
+    On(T, usize),
+    Stop(usize),
 }

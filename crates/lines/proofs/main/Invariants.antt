@@ -3,11 +3,8 @@
 use Rattle.session.specs.Desk.{Sized}
 use lib.ListN.{length}
 use mathlib.Core.Path.{◌≡◌}
-use Prim.Native.Nat.{◌+◌, ◌*◌, ◌≤◌, ◌^◌}
+use Prim.Native.Nat.{◌*◌, ◌≤◌}
 use Rattle.lines.proofs.main.Given as goal
 
-abbrev pub invariant-loop-turns : goal.invariant-loop-turns
-invariant-loop-turns l = Sized l.t l.buf l.labels l.store × (length l.out ≡ 65536) × (l.t.line + l.turns * 512 ≤ 2 ^ 52)
-
-abbrev pub decreases-loop-turns : goal.decreases-loop-turns
-decreases-loop-turns l = l.turns
+abbrev pub invariant-loop-turn : goal.invariant-loop-turn
+invariant-loop-turn l = Sized l.t l.buf l.labels l.store × (length l.out ≡ 65536) × (l.t.line ≤ l._turn * 512)
