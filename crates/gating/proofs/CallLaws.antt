@@ -18,7 +18,9 @@ use Rattle.store.specs.Checks.{Framing}
 use Rattle.store.proofs.Splice.{splice, part_length, splice-length}
 use Rattle.store.proofs.SizeLaws.{Stored-Accepted, Framing-planes, frame_small, own_frame}
 use Rattle.store.proofs.StoreLaws.{frames_at, reframed_to}
-use Rattle.store.proofs.AnswerLaws.{answer_turn, numbered, qubit_small}
+use Rattle.store.specs.declared.refusals.Refusal.{Refusal}
+use Rattle.store.specs.Refusals.{code_of}
+use Rattle.store.proofs.AnswerLaws.{answer_turn, numbered, qubit_small, code_some}
 use Rattle.store.proofs.MeetLaws.{refuse_Meets, nine_Meets, accept_Meets}
 use Rattle.gating.specs.Gates.{turn_number}
 
@@ -55,8 +57,8 @@ module _ (n l : ℕ) (s : List ℕ) (f : Framing n l s) where
 -- ---- each way to end
 
 module _ (c : Call) (n l : ℕ) (s : List ℕ) (f : Framing n l s) (N : ℕ) (numbers : (m : State) → Stored m s → answer_to c (length s) m ≡ N) where
-  pub framed_refused : N ≤ 8 → (a : ℕ) → a ≡ N → (a ≡ 0 → ⊥) → Meets c s (refused a) s
-  framed_refused few zero e d = absurd (d refl)
+  pub framed_refused : N ≤ 8 → (a : ℕ) → a ≡ N → 1 ≤ a → Meets c s (refused a) s
+  framed_refused few zero e d = absurd (omega arith)
   framed_refused few (suc a) e d = refuse_Meets c s f.enough a (omega (arith, few, e)) (λ m h. numbers m h.stored ∙ sym e)
 
   module _ (F : (A : Type 0) → Ops A → Rows A → Rows A) (k : ℕ) (size : k ≡ frame_size n l) (ys : List ℕ) (ok : Bool) (same : length ys ≡ length (part 14 k s))
@@ -107,6 +109,16 @@ turn_done kind t q n l s f e k size ys ok same does =
     framed_done (call_turn kind t q) n l s f (turn_number n t q) (turn_number_lem n l s kind t q f) (λ (A : Type 0) (o : Ops A). turn o kind t q) k size ys ok same does e
     (λ m. refl) (λ m. refl)
 
+pub gate_nine : (n l : ℕ) (s : List ℕ) → Framing n l s → (g : Gate) (k : ℕ) → k ≡ frame_size n l → (ys : List ℕ) → length ys ≡ length (part 14 k s)
+    → Does n l (applied g) (part 14 k s) false ys → Meets (call_gate g) s (refused 9) (splice 14 k s ys)
+gate_nine n l s f g k size ys same does =
+    framed_nine (call_gate g) n l s f (qubit_number n (gate_qubits g)) (gate_number n l s g f) (applied g) k size ys false same does refl
+
+pub turn_nine : (n l : ℕ) (s : List ℕ) → Framing n l s → (kind : Kind) (t q k : ℕ) → k ≡ frame_size n l → (ys : List ℕ) → length ys ≡ length (part 14 k s)
+    → Does n l (λ (A : Type 0) (o : Ops A). turn o kind t q) (part 14 k s) false ys → Meets (call_turn kind t q) s (refused 9) (splice 14 k s ys)
+turn_nine n l s f kind t q k size ys same does =
+    framed_nine (call_turn kind t q) n l s f (turn_number n t q) (turn_number_lem n l s kind t q f) (λ (A : Type 0) (o : Ops A). turn o kind t q) k size ys false same does refl
+
 -- no refusal of a gate or a turn has a number above 8
 pub gate_small : (n : ℕ) (g : Gate) → qubit_number n (gate_qubits g) ≤ 8
 gate_small n g = omega (arith, qubit_small n (gate_qubits g))
@@ -118,3 +130,12 @@ turn_small n k q = go (turn_known k)
     go : (b : Bool) → cond b (qubit_number n (q ∷ [])) 8 ≤ 8
     go true = omega (arith, qubit_small n (q ∷ []))
     go false = omega arith
+
+pub gate_refused : (n l : ℕ) (s : List ℕ) → Framing n l s → (g : Gate) (e : Refusal) → code_of e ≡ qubit_number n (gate_qubits g) → Meets (call_gate g) s (refused (code_of e)) s
+gate_refused n l s f g e is =
+    framed_refused (call_gate g) n l s f (qubit_number n (gate_qubits g)) (gate_number n l s g f) (gate_small n g) (code_of e) is (code_some e)
+
+pub turn_refused : (n l : ℕ) (s : List ℕ) → Framing n l s → (kind : Kind) (t q : ℕ) (e : Refusal) → code_of e ≡ turn_number n t q
+    → Meets (call_turn kind t q) s (refused (code_of e)) s
+turn_refused n l s f kind t q e is =
+    framed_refused (call_turn kind t q) n l s f (turn_number n t q) (turn_number_lem n l s kind t q f) (turn_small n t q) (code_of e) is (code_some e)

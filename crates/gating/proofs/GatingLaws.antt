@@ -1,54 +1,43 @@
 -- A gate, its qubits and a turn along the equations that the code has found. Assumes nothing.
-use mathlib.Core.Path.{◌≡◌, sym, ap, ◌∙◌, subst}
-use mathlib.Core.Bool.{Bool, true, false, cond, ◌||◌}
-use mathlib.Core.List.{List, [], ◌∷◌}
-use Prim.Native.Nat.{ℕ, ◌<◌}
+use mathlib.Core.Path.{◌≡◌, refl, sym, ap, ◌∙◌}
+use mathlib.Core.Logic.{◌≢◌}
+use mathlib.Core.Bool.{Bool, true, false, cond}
+use mathlib.Core.List.{[], ◌∷◌}
+use Prim.Native.Nat.{ℕ, zero, suc, ◌%◌, ◌≤◌, ◌<◌}
 use native.Mathlib.Omega.{arith}
-use lib.Dec.{eqb}
 use borrow.Author.Tests.{ne_eqb}
 use Rattle.model.specs.Frame.{Ops, turn}
 use Rattle.model.specs.Frame as model
 use Rattle.model.specs.Calls.{gate_qubits}
 use Rattle.model.specs.Demands.{Fits}
-use Rattle.frame.specs.Axes.{kind_of}
-use Rattle.frame.specs.declared.axes.Kind.{Kind}
-use Rattle.frame.specs.Places.{applied, Does}
 use Rattle.store.specs.Promises.{turn_known, qubit_number}
 use Rattle.store.proofs.SizeLaws.{single_says, pair_says}
-use Rattle.gating.specs.Gates.{gate_of, turn_number}
-use Rattle.gating.specs.declared.gates.Gate.{Gate}
-
--- the gate g is the gate h that the code has found
-pub Fits-as : (n : ℕ) (g h : Gate) → g ≡ h → Fits n (gate_of g) → Fits n (gate_of h)
-Fits-as n g h e f = subst (λ (i : Gate). Fits n (gate_of i)) e f
-
-pub Does-as : (n l : ℕ) (g h : Gate) (s : List ℕ) (ok : Bool) (t : List ℕ) → g ≡ h → Does n l (applied (gate_of h)) s ok t
-    → Does n l (applied (gate_of g)) s ok t
-Does-as n l g h s ok t e d = subst (λ (i : Gate). Does n l (applied (gate_of i)) s ok t) (sym e) d
-
--- likewise for the kind of a turn
-pub turns_as : (n l k q : ℕ) (a b : Kind) (s : List ℕ) (ok : Bool) (t : List ℕ) → a ≡ b
-    → Does n l (λ (A : Type 0) (o : Ops A). turn o (kind_of b) k q) s ok t → Does n l (λ (A : Type 0) (o : Ops A). turn o (kind_of a) k q) s ok t
-turns_as n l k q a b s ok t e d = subst (λ (i : Kind). Does n l (λ (A : Type 0) (o : Ops A). turn o (kind_of i) k q) s ok t) (sym e) d
+use Rattle.gating.specs.Gates.{turn_number}
 
 -- ---- the turns that are known
 
--- by the number that the code has found
-pub turn_known_lem : (k m : ℕ) → k ≡ m → turn_known m ≡ true → true ≡ turn_known k
-turn_known_lem k m e d = sym (ap turn_known e ∙ d)
-
--- or by none but the last
-pub turn_last : (k : ℕ) → (k ≡ 0 → ⊥) → (k ≡ 2 → ⊥) → (k ≡ 4 → ⊥) → eqb k 6 ≡ turn_known k
+pub even_turn : (k : ℕ) → k ≤ 6 → (k % 2 ≡ 1 → ⊥) → turn_known k ≡ true
 unfolding turn_known
-turn_last k a b c =
-    sym (ap (λ (i : Bool). i || eqb k 2 || eqb k 4 || eqb k 6) (ne_eqb k 0 a)
-    ∙ ap (λ (i : Bool). i || eqb k 4 || eqb k 6) (ne_eqb k 2 b)
-    ∙ ap (λ (i : Bool). i || eqb k 6) (ne_eqb k 4 c))
+even_turn zero h e = refl
+even_turn (suc zero) h e = absurd (e refl)
+even_turn (suc (suc zero)) h e = refl
+even_turn (suc (suc (suc zero))) h e = absurd (e refl)
+even_turn (suc (suc (suc (suc zero)))) h e = refl
+even_turn (suc (suc (suc (suc (suc zero))))) h e = absurd (e refl)
+even_turn (suc (suc (suc (suc (suc (suc zero)))))) h e = refl
+even_turn (suc (suc (suc (suc (suc (suc (suc k))))))) h e = absurd (omega arith)
+
+no_turn : (k : ℕ) → k ≢ 0 → k ≢ 2 → k ≢ 4 → k ≢ 6 → turn_known k ≡ false
+unfolding turn_known
+no_turn k a b c d = rw (ne_eqb k 0 a, ne_eqb k 2 b, ne_eqb k 4 c, ne_eqb k 6 d) refl
+
+pub large_turn : (k : ℕ) → 6 < k → turn_known k ≡ false
+large_turn k h = no_turn k (λ e. omega arith) (λ e. omega arith) (λ e. omega arith) (λ e. omega arith)
+
+pub odd_turn : (k : ℕ) → k % 2 ≡ 1 → turn_known k ≡ false
+odd_turn k h = no_turn k (λ e. omega arith) (λ e. omega arith) (λ e. omega arith) (λ e. omega arith)
 
 -- ---- the numbers of the refusals
-
-pub qubits_as : (n a : ℕ) (g h : Gate) → g ≡ h → a ≡ qubit_number n (gate_qubits (gate_of h)) → a ≡ qubit_number n (gate_qubits (gate_of g))
-qubits_as n a g h e d = subst (λ (i : Gate). a ≡ qubit_number n (gate_qubits (gate_of i))) (sym e) d
 
 -- a gate that is not refused for its qubits
 pub qubits_fit : (n : ℕ) (g : model.Gate) → qubit_number n (gate_qubits g) ≡ 0 → Fits n g

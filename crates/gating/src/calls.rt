@@ -2,97 +2,60 @@
 ghost use Rattle.std.specs.Prelude.{◌≡◌};
 ghost use Rattle.model.specs.Calls.{call_gate, call_turn, gate_qubits};
 ghost use Rattle.frame.specs.Axes.{kind_of};
-ghost use Rattle.store.specs.Promises.{told, turn_known, qubit_number, Meets};
+ghost use Rattle.store.specs.Refusals.{number_of};
+ghost use Rattle.store.specs.Promises.{told_done, qubit_number, Meets};
 ghost use Rattle.gating.specs.Gates.{gate_of, turn_number};
 
-use crate::gates::Gate;
+use crate::gates::{Gate, act, turned};
 use frame::axes::Kind;
-use store::answers::Answer;
-use store::header::Framed;
+use store::header::{frame_sizes, history_place};
+use store::qubits::check_qubits;
+use store::refusals::Refusal;
 
-// The number of the refusal for the gate's qubits (4 or 5), or 0.
-fn refusal(n: usize, g: Gate) -> u32
-    ensures { result ≡ qubit_number n (gate_qubits (gate_of g)) }
+// The gate's qubits are there and differ.
+fn check_gate(n: usize, g: Gate) -> Result<(), Refusal>
+    ensures { number_of result ≡ qubit_number n (gate_qubits (gate_of g)) }
 {
     match g {
-        Gate::H(q) => store::qubits::single(n, q),
-        Gate::X(q) => store::qubits::single(n, q),
-        Gate::Y(q) => store::qubits::single(n, q),
-        Gate::Z(q) => store::qubits::single(n, q),
-        Gate::S(q) => store::qubits::single(n, q),
-        Gate::Sdg(q) => store::qubits::single(n, q),
-        Gate::Sx(q) => store::qubits::single(n, q),
-        Gate::Cnot(c, t) => store::qubits::pair(n, c, t),
-        Gate::Cz(c, t) => store::qubits::pair(n, c, t),
-        Gate::Swap(a, b) => store::qubits::pair(n, a, b),
-        Gate::Cy(c, t) => store::qubits::pair(n, c, t),
+        Gate::H(q) | Gate::X(q) | Gate::Y(q) | Gate::Z(q) => check_qubits(n, &[q]),
+        Gate::S(q) | Gate::Sdg(q) | Gate::Sx(q) => check_qubits(n, &[q]),
+        Gate::Cnot(a, b) | Gate::Cz(a, b) | Gate::Swap(a, b) | Gate::Cy(a, b) => {
+            check_qubits(n, &[a, b])
+        }
     }
 }
 
 // A gate on both frames. "4: a qubit is n or more", "5: one gate names a qubit twice"
-pub fn gate(s: &mut [u64], g: Gate) -> Answer
-    ensures { Meets (call_gate (gate_of g)) s.old (told result) s.new }
+pub fn gate(s: &mut [u64], g: Gate) -> Result<(), Refusal>
+    ensures { Meets (call_gate (gate_of g)) s.old (told_done result) s.new }
 {
-    match store::header::frame_sizes(s) {
-        Framed::Short => Answer::Refused(3),
-        Framed::Bad => Answer::Refused(9),
-        Framed::Ready(n, l) => {
-            let k = refusal(n, g);
-            if k != 0 {
-                return Answer::Refused(k);
-            }
-            let end = 14 + (2 * n * (2 * l + 1) + 2 * (2 * n));
-            match crate::gates::act(&mut s[14..end], n, l, g) {
-                Ok(()) => Answer::Done,
-                Err(_) => Answer::Refused(9),
-            }
-        }
-    }
+    let (n, l) = frame_sizes(s)?;
+    check_gate(n, g)?;
+    let end = history_place(n, l);
+    act(&mut s[14..end], n, l, g)?;
+    Ok(())
 }
 
-// The turn is one of 01's.
-fn known_turn(k: u64) -> bool
-    ensures { result ≡ turn_known k }
-{
-    if k == 0 {
-        return true;
-    }
-    if k == 2 {
-        return true;
-    }
-    if k == 4 {
-        return true;
-    }
-    k == 6
-}
+// In eighths of a full turn: three quarters. The frames know turns by even numbers of eighths.
+const LARGEST_TURN: u64 = 6;
 
-// The number of the refusal for the turn (8) or its qubit (4), or 0: 8 comes first.
-fn turn_refusal(n: usize, k: u64, q: usize) -> u32
-    ensures { result ≡ turn_number n k q }
+// The turn is one of 01's, and its qubit is there. "8: a turn other than 0, 2, 4, 6" comes first.
+fn check_turn(n: usize, k: u64, q: usize) -> Result<(), Refusal>
+    ensures { number_of result ≡ turn_number n k q }
 {
-    if known_turn(k) {
-        return store::qubits::single(n, q);
+    if LARGEST_TURN < k || k % 2 == 1 {
+        return Err(Refusal::Turn);
     }
-    8
+    check_qubits(n, &[q])
 }
 
 // The gates of a turn on both frames. "8: a turn other than 0, 2, 4, 6", then 4
-pub fn turn(s: &mut [u64], kind: Kind, k: u64, q: usize) -> Answer
-    ensures { Meets (call_turn (kind_of kind) k q) s.old (told result) s.new }
+pub fn turn(s: &mut [u64], kind: Kind, k: u64, q: usize) -> Result<(), Refusal>
+    ensures { Meets (call_turn (kind_of kind) k q) s.old (told_done result) s.new }
 {
-    match store::header::frame_sizes(s) {
-        Framed::Short => Answer::Refused(3),
-        Framed::Bad => Answer::Refused(9),
-        Framed::Ready(n, l) => {
-            let no = turn_refusal(n, k, q);
-            if no != 0 {
-                return Answer::Refused(no);
-            }
-            let end = 14 + (2 * n * (2 * l + 1) + 2 * (2 * n));
-            match crate::gates::turned(&mut s[14..end], n, l, kind, k, q) {
-                Ok(()) => Answer::Done,
-                Err(_) => Answer::Refused(9),
-            }
-        }
-    }
+    let (n, l) = frame_sizes(s)?;
+    check_turn(n, k, q)?;
+    let end = history_place(n, l);
+    turned(&mut s[14..end], n, l, kind, k, q)?;
+    Ok(())
 }

@@ -10,7 +10,7 @@ use frame::axes::Kind;
 use pauli::corrupt::Corrupt;
 
 // 01's gates. Of a gate on two qubits the first is the control.
-#[derive(Clone, Copy)]
+#[derive(Clone, Copy, Debug, PartialEq, Eq, Hash)]
 pub enum Gate {
     H(usize),
     X(usize),
@@ -66,7 +66,6 @@ pub fn turned(
     match kind {
         Kind::X => frame::gates::turn_x(f, n, l, k, q),
         Kind::Y => frame::gates::turn_y(f, n, l, k, q),
-        Kind::Z => frame::gates::turn_z(f, n, l, k, q),
-        Kind::P => frame::gates::turn_z(f, n, l, k, q),
+        Kind::Z | Kind::P => frame::gates::turn_z(f, n, l, k, q),
     }
 }

@@ -8,30 +8,13 @@ use mir.Val.{SFits}
 use Rattle.pauli.proofs.Signs.{bits8}
 use lib.ListN.{length, set, drop}
 use lib.IntN.{ℤ}
-use Rattle.store.specs.declared.answers.Answer.{Answer}
-use Rattle.store.specs.declared.answers.Answer.TheVariants as answer
 use Rattle.store.specs.declared.answers.Reading.{Reading}
 use Rattle.store.specs.declared.answers.Reading.TheVariants as reading
 use Rattle.store.specs.declared.answers.Sight.{Sight}
 use Rattle.store.specs.declared.answers.Sight.TheVariants as sight
-use Rattle.store.specs.Promises.{number, told, told_read, told_look}
+use Rattle.store.specs.Promises.{number, told_read, told_look}
 use Rattle.host.specs.Host.{sign_word, bit, first_of, words_of, reading_words, look_words}
 use Rattle.host.proofs.Written.{three, whole}
-
--- ---- a number alone, and the first event recorded
-
-module _ (a : Answer) (v : ℕ) where
-  pub told-Done : a ≡ answer.Done → (0 ≡ number (told a)) × (v ≡ first_of (told a) v)
-  unfolding number told first_of
-  told-Done e = (ap (λ x. number (told x)) (sym e), ap (λ x. first_of (told x) v) (sym e))
-
-  pub told_first : (id : ℕ) → a ≡ answer.First id → (0 ≡ number (told a)) × (id ≡ first_of (told a) v)
-  unfolding number told first_of
-  told_first id e = (ap (λ x. number (told x)) (sym e), ap (λ x. first_of (told x) v) (sym e))
-
-  pub told_refused : (k : ℕ) → a ≡ answer.Refused k → (k ≡ number (told a)) × (v ≡ first_of (told a) v)
-  unfolding number told first_of
-  told_refused k e = (ap (λ x. number (told x)) (sym e), ap (λ x. first_of (told x) v) (sym e))
 
 -- ---- the words of a look and of a read
 

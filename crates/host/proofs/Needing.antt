@@ -1,6 +1,6 @@
 -- The words that an opening needs, from its number. Assumes nothing.
-use mathlib.Core.Path.{◌≡◌, sym, ap, ◌∙◌}
-use mathlib.Core.Bool.{Bool, false, cond}
+use mathlib.Core.Path.{◌≡◌, refl, sym, ap, ◌∙◌}
+use mathlib.Core.Bool.{Bool, true, false, cond, true≢false}
 use Prim.Native.Nat.{ℕ, ◌+◌, ◌-◌, ◌*◌, ◌^◌, ◌≤◌, ◌<◌}
 use native.Mathlib.Omega.{arith}
 use lib.ListN.{replicate, length-replicate}
@@ -13,6 +13,11 @@ use Rattle.history.specs.Words.{history_room}
 use Rattle.store.specs.Stores.{history_place}
 use Rattle.store.proofs.SizeLaws.{need_is, accepted}
 use Rattle.store.proofs.OpenLaws.{many_qubits}
+use Rattle.std.proofs.Common.{Result, Ok, Err}
+use Rattle.std.specs.Result.{is_err}
+use Rattle.store.specs.declared.refusals.OpenError.{OpenError}
+use Rattle.store.specs.declared.refusals.OpenError.TheVariants.{Sizes, Events, TooShort}
+use Rattle.store.specs.Refusals.{open_number_of}
 use Rattle.host.specs.Host.{needed}
 
 module _ (n E : ℕ) (f : Form) where
@@ -34,3 +39,14 @@ module _ (n E : ℕ) (f : Form) where
     pub need_of : (r : ℕ) → r ≡ history_room f n E (words n) → history_place n (words n) + r ≡ needed n E f
     unfolding needed
     need_of r h = (ap (λ x. history_place n (words n) + x) h ∙ sym (need_is f n E)) ∙ sym (ap (λ x. cond x (need n E f) 0) (eq-eqb (open_number n E 0 f (4 * n) (2 ^ 64 - 1)) 0 (sym e ∙ z)))
+
+-- whether an opening was refused, and its number
+pub number_some : (r : Result Unit OpenError) → is_err r ≡ true → open_number_of r ≡ 0 → ⊥
+number_some (Ok v) e z = absurd (true≢false (sym e))
+number_some (Err Sizes) e z = omega arith
+number_some (Err Events) e z = omega arith
+number_some (Err TooShort) e z = omega arith
+
+pub number_none : (r : Result Unit OpenError) → is_err r ≡ false → open_number_of r ≡ 0
+number_none (Ok v) e = refl
+number_none (Err k) e = absurd (true≢false e)

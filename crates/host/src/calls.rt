@@ -10,7 +10,7 @@ ghost use Rattle.host.specs.Host.{needed, Lent, Named, Opened, Done, Recorded, A
 
 use super::named::{NamedForm, NamedGate, NamedKind, form_named, gate_named, kind_named};
 use super::sizes::needed_words;
-use super::words::{first_of, number_of, reading_into, sight_into};
+use super::words::{first_of, number_of, open_number_of, reading_into, sight_into};
 
 // ---- opening
 
@@ -37,7 +37,7 @@ pub extern "C" fn tillbonnet_open(
     ensures { Named (named forms form) (λ (f : Form). Opened (opening n events steps f labels.now (length s.old)) s.old result s.new) ((result ≡ 1) × (s.new ≡ s.old)) }
 {
     match form_named(form) {
-        NamedForm::Known(f) => number_of(partner::calls::open(s, n, events, steps, f, labels)),
+        NamedForm::Known(f) => open_number_of(partner::calls::open(s, n, events, steps, f, labels)),
         NamedForm::Unknown => 1,
     }
 }

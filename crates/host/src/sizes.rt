@@ -4,8 +4,8 @@ ghost use Rattle.history.specs.Sizes.{form_of};
 ghost use Rattle.host.specs.Host.{needed};
 
 use history::forms::Form;
-use store::header::history_room;
-use store::opening::open_number;
+use store::header::{history_place, history_room};
+use store::opening::check_opening;
 
 // The need of these sizes, or 0 where no opening accepts them: the number of an opening with no steps, labels as many as n asks for and the longest
 // slice tells it.
@@ -16,9 +16,9 @@ pub fn needed_words(n: usize, events: usize, form: Form) -> usize
     if 23168 < n {
         return 0;
     }
-    if open_number(n, events, 0, form, 4 * n, 18446744073709551615) != 0 {
+    if check_opening(n, events, 0, form, 4 * n, usize::MAX).is_err() {
         return 0;
     }
     let l = (n + 63) / 64;
-    14 + (2 * n * (2 * l + 1) + 2 * (2 * n)) + history_room(form, n, l, events)
+    history_place(n, l) + history_room(form, n, l, events)
 }

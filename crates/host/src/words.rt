@@ -1,33 +1,45 @@
 // An answer as a number and, where it says more, as words of the caller's.
 ghost use Rattle.std.specs.Prelude.{◌≡◌, ◌∷◌, ◌≤◌, length, drop};
-ghost use Rattle.store.specs.Promises.{told, told_read, told_look, number};
+ghost use Rattle.store.specs.Promises.{told_open, told_done, told_first, told_read, told_look, number};
 ghost use Rattle.host.specs.Host.{sign_word, bit, first_of, words_of};
 
-use store::answers::{Answer, Reading, Sight};
+use store::answers::{Reading, Sight};
+use store::refusals::{OpenError, Refusal};
 
-// 01's number of an answer.
-pub fn number_of(a: Answer) -> u32
-    ensures { result ≡ number (told a) }
+// 01's number of an opening.
+#[tactic(auto, unfolding(store::specs::Promises::number))]
+pub fn open_number_of(opened: Result<(), OpenError>) -> u32
+    ensures { result ≡ number (told_open opened) }
 {
-    match a {
-        Answer::Done => 0,
-        Answer::First(_) => 0,
-        Answer::Refused(k) => k,
+    match opened {
+        Ok(_) => 0,
+        Err(e) => e.code(),
     }
 }
 
-// The same, and the number of the first event recorded goes to `first`.
-pub fn first_of(a: Answer, first: &mut usize) -> u32
-    ensures value { result ≡ number (told a) }
-    ensures first_after { first.new ≡ first_of (told a) first.old }
+// 01's number of a call that records nothing.
+#[tactic(auto, unfolding(store::specs::Promises::number))]
+pub fn number_of(done: Result<(), Refusal>) -> u32
+    ensures { result ≡ number (told_done done) }
 {
-    match a {
-        Answer::Done => 0,
-        Answer::First(id) => {
+    match done {
+        Ok(_) => 0,
+        Err(e) => e.code(),
+    }
+}
+
+// The same of one that records, and the number of the first event recorded goes to `first`.
+#[tactic(auto, unfolding(store::specs::Promises::number, crate::specs::Host::first_of))]
+pub fn first_of(recorded: Result<usize, Refusal>, first: &mut usize) -> u32
+    ensures value { result ≡ number (told_first recorded) }
+    ensures first_after { first.new ≡ first_of (told_first recorded) first.old }
+{
+    match recorded {
+        Ok(id) => {
             *first = id;
             0
         }
-        Answer::Refused(k) => k,
+        Err(e) => e.code(),
     }
 }
 

@@ -1,6 +1,5 @@
 -- Laws of the call that records: its answer, and each way in which it ends. Assumes nothing.
 use mathlib.Core.Path.{◌≡◌, refl, sym, ap, ◌∙◌, subst}
-use mathlib.Core.Logic.{◌≢◌}
 use mathlib.Core.Bool.{Bool, true, false, true≢false}
 use mathlib.Core.List.{List}
 use Prim.Native.Nat.{ℕ, zero, suc, ◌+◌, ◌≤◌, ◌<◌}
@@ -18,7 +17,9 @@ use Rattle.store.specs.Checks.{Fit}
 use Rattle.store.proofs.Splice.{part_at}
 use Rattle.store.proofs.SizeLaws.{Own, own}
 use Rattle.store.proofs.StoreLaws.{history_at}
-use Rattle.store.proofs.AnswerLaws.{qubit_small, last_number, answer_qubits, answer_last, last_full, last_named}
+use Rattle.store.specs.declared.refusals.Refusal.{Refusal}
+use Rattle.store.specs.Refusals.{code_of}
+use Rattle.store.proofs.AnswerLaws.{code_some, qubit_small, last_number, answer_qubits, answer_last, last_full, last_named}
 use Rattle.store.proofs.MeetLaws.{Reached-Good, refuse_Meets, nine_Meets, accept_Meets}
 use Rattle.marking.specs.Marks.{call_of, qubits_of, records_of, events_of, Records}
 use Rattle.marking.specs.declared.events.Mark.{Mark}
@@ -80,12 +81,15 @@ module _ (z : Sizes) (s : List ℕ) (mark : Mark) (f : Fit z s) where
   own_number m h k e = ap (λ (n : ℕ). qubit_number n (qubits_of mark)) (own z m s f h).qubits ∙ sym e
 
   -- "4: a qubit is n or more", "5: one gate names a qubit twice"
-  pub qubits_refused : (k : ℕ) → k ≡ qubit_number z.n (qubits_of mark) → k ≢ 0 → Meets (call_of mark) s (refused k) s
-  qubits_refused zero e d = absurd (d refl)
-  qubits_refused (suc k) e d =
+  numbered : (k : ℕ) → k ≡ qubit_number z.n (qubits_of mark) → 1 ≤ k → Meets (call_of mark) s (refused k) s
+  numbered zero e d = absurd (omega arith)
+  numbered (suc k) e d =
       refuse_Meets (call_of mark) s f.framing.enough k (omega (arith, e, qubit_small z.n (qubits_of mark))) (λ m h.
       mark-answer mark (length s) m
       ∙ answer_qubits m (length s) 0 (qubits_of mark) (records_of mark) false h.stored.long no_turn k (own_number m h.stored (suc k) e))
+
+  pub qubits_refused : (e : Refusal) → code_of e ≡ qubit_number z.n (qubits_of mark) → Meets (call_of mark) s (refused (code_of e)) s
+  qubits_refused e is = numbered (code_of e) is (code_some e)
 
   -- there are not more events than there is room for
   pub too_many : z.cap < get_or s z.at 0 → Meets (call_of mark) s (refused 9) s

@@ -1,24 +1,23 @@
 // The call that records: everything is asked before anything is written, so that it is done whole or refused.
-ghost use Rattle.std.specs.Prelude.{◌≡◌, ◌≤◌};
-ghost use Rattle.store.specs.Promises.{told, qubit_number, Meets};
+ghost use Rattle.std.specs.Prelude.{◌≡◌, ◌+◌, ◌*◌, ◌≤◌, is_ok};
+ghost use Rattle.store.specs.Refusals.{number_of};
+ghost use Rattle.store.specs.Promises.{told_first, qubit_number, Meets};
 ghost use Rattle.store.specs.Checks.{Fit};
 ghost use Rattle.marking.specs.Marks.{call_of, qubits_of, records_of, events_of, Records};
 
 use super::events::{Mark, marked};
-use store::answers::Answer;
-use store::header::{Checked, Sizes, check, sizes_of};
-use store::qubits::{single, triple};
+use pauli::corrupt::Corrupt;
+use store::header::{Sizes, check, sizes_of};
+use store::qubits::check_qubits;
+use store::refusals::Refusal;
 
-// Whether its qubits are there and differ: 0, or the number of the refusal.
-fn refusal(n: usize, mark: Mark) -> u32
-    ensures { result ≡ qubit_number n (qubits_of mark) }
+// Its qubits are there and differ.
+fn check_mark(n: usize, mark: Mark) -> Result<(), Refusal>
+    ensures { number_of result ≡ qubit_number n (qubits_of mark) }
 {
     match mark {
-        Mark::Rotation { kind: _, q, tag: _ } => single(n, q),
-        Mark::Measure(q) => single(n, q),
-        Mark::Reset(q) => single(n, q),
-        Mark::Ccx(a, b, t) => triple(n, a, b, t),
-        Mark::Ccz(a, b, t) => triple(n, a, b, t),
+        Mark::Rotation { q, .. } | Mark::Measure(q) | Mark::Reset(q) => check_qubits(n, &[q]),
+        Mark::Ccx(a, b, t) | Mark::Ccz(a, b, t) => check_qubits(n, &[a, b, t]),
     }
 }
 
@@ -27,102 +26,56 @@ fn records(mark: Mark) -> usize
     ensures { result ≡ records_of mark }
 {
     match mark {
-        Mark::Rotation { .. } => 1,
-        Mark::Measure(_) => 1,
+        Mark::Rotation { .. } | Mark::Measure(_) => 1,
         Mark::Reset(_) => 2,
-        Mark::Ccx(_, _, _) => 7,
-        Mark::Ccz(_, _, _) => 7,
+        Mark::Ccx(_, _, _) | Mark::Ccz(_, _, _) => 7,
     }
 }
 
-// Records all events, with a row of up to 192 qubits: no more words are cleared for it than such a row has.
-fn narrow(s: &mut [u64], z: Sizes, mark: Mark) -> bool
-    requires { Fit z s.old × (z.l ≤ 3) × (qubit_number z.n (qubits_of mark) ≡ 0) }
-    ensures { Records (events_of mark) s.old result s.new }
+// Records all events, with a row of WORDS words for their axes: that many are cleared for it.
+fn with_row<const WORDS: usize>(s: &mut [u64], z: &Sizes, mark: Mark) -> Result<(), Corrupt>
+    requires { Fit z.now s.old × (2 * z.now.l + 1 ≤ WORDS) × (WORDS ≤ 725) × (qubit_number z.now.n (qubits_of mark) ≡ 0) }
+    ensures { Records (events_of mark) s.old (is_ok result) s.new }
 {
-    let words = 2 * z.l + 1;
-    let form = z.form;
-    let mut out = [0u64; 7];
-    marked(
-        s,
-        z.n,
-        z.l,
-        form,
-        z.cap,
-        z.allowance,
-        z.at,
-        z.end,
-        mark,
-        &mut out[..words],
-    )
+    let mut row = [0u64; WORDS];
+    let out = &mut row[..];
+    marked(s, z, mark, &mut out[..2 * z.l + 1])
 }
 
-// The same with a row of any number of qubits.
-fn wide(s: &mut [u64], z: Sizes, mark: Mark) -> bool
-    requires { Fit z s.old × (qubit_number z.n (qubits_of mark) ≡ 0) }
-    ensures { Records (events_of mark) s.old result s.new }
-{
-    let words = 2 * z.l + 1;
-    let form = z.form;
-    let mut out = [0u64; 725];
-    marked(
-        s,
-        z.n,
-        z.l,
-        form,
-        z.cap,
-        z.allowance,
-        z.at,
-        z.end,
-        mark,
-        &mut out[..words],
-    )
-}
-
-// The same with the shorter row where it is long enough.
-fn either_row(s: &mut [u64], z: Sizes, mark: Mark) -> bool
-    requires { Fit z s.old × (qubit_number z.n (qubits_of mark) ≡ 0) }
-    ensures { Records (events_of mark) s.old result s.new }
+// The same with the row of up to 192 qubits where it is long enough, else with the longest.
+fn either_row(s: &mut [u64], z: &Sizes, mark: Mark) -> Result<(), Corrupt>
+    requires { Fit z.now s.old × (qubit_number z.now.n (qubits_of mark) ≡ 0) }
+    ensures { Records (events_of mark) s.old (is_ok result) s.new }
 {
     if z.l <= 3 {
-        return narrow(s, z, mark);
+        with_row::<7>(s, z, mark)
+    } else {
+        with_row::<725>(s, z, mark)
     }
-    wide(s, z, mark)
 }
 
 // The call on a store whose header is sound. On words that hold a state the history's first word is the number of events.
-fn enter(s: &mut [u64], z: Sizes, mark: Mark) -> Answer
-    requires { Fit z s.old }
-    ensures { Meets (call_of mark) s.old (told result) s.new }
+fn enter(s: &mut [u64], z: &Sizes, mark: Mark) -> Result<usize, Refusal>
+    requires { Fit z.now s.old }
+    ensures { Meets (call_of mark) s.old (told_first result) s.new }
 {
-    let k = refusal(z.n, mark);
-    if k != 0 {
-        return Answer::Refused(k);
-    }
-    let at = z.at;
-    let events = s[at] as usize;
+    check_mark(z.n, mark)?;
+    let events = s[z.at] as usize;
     if z.cap < events {
-        return Answer::Refused(9);
+        return Err(Refusal::Corrupt);
     }
     if z.cap < events + records(mark) {
-        return Answer::Refused(6);
+        return Err(Refusal::Full);
     }
-    if either_row(s, z, mark) {
-        return Answer::First(events);
-    }
-    Answer::Refused(9)
+    either_row(s, z, mark)?;
+    Ok(events)
 }
 
-// Records the events of a mark: the answer is 0 and the number of the first, or the number of the refusal.
-pub fn enroll(s: &mut [u64], mark: Mark) -> Answer
-    ensures { Meets (call_of mark) s.old (told result) s.new }
+// Records the events of a mark: the number of the first, or why none is recorded.
+pub fn enroll(s: &mut [u64], mark: Mark) -> Result<usize, Refusal>
+    ensures { Meets (call_of mark) s.old (told_first result) s.new }
 {
-    match check(s) {
-        Checked::Short => Answer::Refused(3),
-        Checked::Bad => Answer::Refused(9),
-        Checked::Ready => {
-            let z = sizes_of(s);
-            enter(s, z, mark)
-        }
-    }
+    check(s)?;
+    let z = sizes_of(s);
+    enter(s, &z, mark)
 }

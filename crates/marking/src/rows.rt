@@ -51,10 +51,8 @@ fn join(out: &mut [u64], row: &[u64], on: bool)
     ensures { (l : ℕ) (p q : Pauli) → length row.now ≡ 2 * l + 1 → Sets l out.old p → Sets l row.now q → Sets l out.new (cond «on» (times p q) p) }
 {
     if on {
-        let mut i = 1;
-        while i < row.len() {
+        for i in 1..row.len() {
             out[i] ^= row[i];
-            i += 1;
         }
     }
 }

@@ -26,7 +26,7 @@ use Rattle.history.proofs.Theorems.{lists_in_words}
 use Rattle.store.specs.Stores.{Held, HeldTo}
 use Rattle.store.specs.Promises.{number, turn_known, Answers, Meets, Opens}
 use Rattle.store.specs.Checks.{TooShort}
-use Rattle.store.proofs.SizeLaws.{single_in}
+use Rattle.store.proofs.QubitLaws.{single_in}
 use Rattle.store.proofs.AnswerLaws.{numbered}
 use Rattle.store.proofs.MeetLaws.{Reached-Good}
 use Rattle.partner.specs.Runs.{Step, Runs, Since, Fits64, list_of, DemandThree}

@@ -41,6 +41,7 @@ use Rattle.history.specs.Phases.{label_of, look_of}
 use Rattle.pauli.specs.declared.corrupt.Corrupt.{Corrupt}
 use Rattle.history.specs.declared.kill.KillError.{KillError}
 use Rattle.history.specs.declared.kill.KillError.TheVariants as kill_error
+use Rattle.store.specs.Refusals.{code_of, kill_refusal}
 use Rattle.history.specs.declared.events.Rotation.{Rotation}
 use Rattle.history.specs.declared.findings.Look as seen
 use Rattle.history.specs.declared.findings.Found.TheVariants as found_here
@@ -52,7 +53,8 @@ use Rattle.store.specs.declared.answers.Sight.TheVariants as sight
 use Rattle.store.specs.Stores.{Stored, Held, StoredTo}
 use Rattle.store.specs.Checks.{Fit}
 use Rattle.store.specs.Promises.{number, turn_known, told_look, qubit_number, Answers, Meets}
-use Rattle.store.proofs.SizeLaws.{Own, own, single_out, single_in}
+use Rattle.store.proofs.QubitLaws.{single_out, single_in}
+use Rattle.store.proofs.SizeLaws.{Own, own}
 use Rattle.store.proofs.StoreLaws.{killed_to, cleared_to}
 use Rattle.store.proofs.AnswerLaws.{answer_last, last_named, numbered}
 use Rattle.store.proofs.LentLaws.{Held-Good, Held-Sane, lent, lent_frames, back, room_is, lent-Holds, frames-Held, back-length, back_same, back_place, history_fits, as_history}
@@ -135,6 +137,11 @@ module _ (z : Sizes) (s : List ℕ) (fit : Fit z s) (ys : List ℕ) where
         go : (m : State) → Holds (form_of z.form) z.n z.cap z.l m (lent z s) → Sane m → (b : Bool) → not_killable m.events id ≡ b → ⊥
         go m h g true q = let s = (refuses m h g q).0 in cc
         go m h g false q = let s = (does m h g q).0 in cc (ap is_ok e)
+
+    -- an error, as the refusal that it becomes
+    pub kill_failed : (k : KillError) → r ≡ Err k → (r ≡ Err kill_error.NoSuchEvent → ys ≡ lent z s) → Meets (call_kill id) s (refused (code_of (kill_refusal k))) (back z s ys)
+    kill_failed kill_error.NoSuchEvent e kept = kill_refused e (kept e)
+    kill_failed kill_error.Corrupt e kept = kill_bad e
 
   -- ---- a clear
 

@@ -19,7 +19,7 @@ use history::findings::{Found, Look};
 use history::forms::Form;
 use pauli::rows::opposite;
 use store::answers::Sight;
-use store::header::{Checked, Sizes, check, sizes_of};
+use store::header::{Sizes, check, sizes_of};
 
 // The partner `id` as the answer of a look: the relative sign is the product of the sign it keeps and the row's own. Only here is the row's sign
 // worked out, which takes a walk over its words. That `kept` is a sign is known of words that hold a state, so it is compared and not multiplied.
@@ -208,9 +208,8 @@ pub fn look(s: &[u64], kind: Kind, q: usize) -> Sight
     ensures { Answers (call_look (kind_of kind) q) s.now (told_look result) }
 {
     match check(s) {
-        Checked::Short => Sight::Refused(3),
-        Checked::Bad => Sight::Refused(9),
-        Checked::Ready => {
+        Err(e) => Sight::Refused(e.code()),
+        Ok(_) => {
             let z = sizes_of(s);
             if z.n <= q {
                 return Sight::Refused(4);

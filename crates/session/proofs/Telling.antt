@@ -23,11 +23,12 @@ use Rattle.frame.specs.declared.axes.Kind.{Kind}
 use Rattle.history.specs.Sizes.{form_of}
 use Rattle.history.specs.declared.forms.Form as forms
 use Rattle.store.specs.Stores.{Held}
-use Rattle.store.specs.Promises.{number, told, told_look, Answers, Meets, Opens}
-use Rattle.store.specs.declared.answers.Answer.{Answer}
-use Rattle.store.specs.declared.answers.Answer.TheVariants as answer
+use Rattle.store.specs.Promises.{number, told, told_open, told_look, Answers, Meets, Opens}
+use Rattle.std.specs.Prelude.{Option, Some, None, Result, Ok, Err}
+use Rattle.store.specs.declared.refusals.Refusal.{Refusal}
+use Rattle.store.specs.declared.refusals.OpenError.{OpenError}
+use Rattle.store.specs.Refusals.{code_of, open_code_of}
 use Rattle.store.specs.declared.answers.Sight.{Sight}
-use Rattle.store.specs.contracts.answers.Answer as answers
 use Rattle.store.proofs.LentLaws.{Held-Good}
 use Rattle.model.proofs.Stay.{record_given}
 use Rattle.partner.specs.Calls.{call_in}
@@ -100,7 +101,7 @@ few_records (calls.Ccz a b t) = omega arith
 few_records (calls.Kill id) = omega arith
 few_records calls.Clear = omega arith
 
-module _ (c : Call) (a : Answer) (e l : ℕ) where
+module _ (c : Call) (a : Result (Option ℕ) Refusal) (e l : ℕ) where
   pub count_past : 48 < e → Counts c (told a) e l (at.Running e l)
   count_past h = record { is = λ few in_them. absurd (past few); running = (e, l, refl) }
     where
@@ -113,16 +114,13 @@ module _ (c : Call) (a : Answer) (e l : ℕ) where
       more : l ≤ e → ⊥
       more q = omega arith
 
-  pub count_first : (id k : ℕ) → a ≡ answer.First id → k ≡ records_of c → Counts c (told a) e l (at.Running (e + k) (l + k))
-  unfolding told
+  pub count_first : (id k : ℕ) → a ≡ Ok (Some id) → k ≡ records_of c → Counts c (told a) e l (at.Running (e + k) (l + k))
   count_first id k u v = record { is = λ few in_them. rw (u, v); running = (e + k, l + k, refl) }
 
-  pub count_Done : (left k : ℕ) → a ≡ answer.Done → k ≡ kills_of c → left ≡ l - k → Counts c (told a) e l (at.Running e left)
-  unfolding told
+  pub count_Done : (left k : ℕ) → a ≡ Ok None → k ≡ kills_of c → left ≡ l - k → Counts c (told a) e l (at.Running e left)
   count_Done left k u v w = record { is = λ few in_them. rw (u, w, v); running = (e, left, refl) }
 
-  pub count_refused : (k : ℕ) → a ≡ answer.Refused k → Counts c (told a) e l (at.Running e l)
-  unfolding told
+  pub count_refused : (k : Refusal) → a ≡ Err k → Counts c (told a) e l (at.Running e l)
   count_refused k u = record { is = λ few in_them. rw u; running = (e, l, refl) }
 
 -- ---- an operation
@@ -164,7 +162,7 @@ module _ (e l : ℕ) (store : List ℕ) (m : State) (r : Running e l store m) wh
   unfolding living
   l_few = let a : length (keep (λ x. x.live) m.events) ≤ length m.events = length-keep _ m.events in omega (arith, e_is, l_is)
 
-module _ (ln e l : ℕ) (c : Call) (store out : List ℕ) (a : Answer) (st : code.Stage) (n : ℕ) (store' out' : List ℕ) (size : length store ≡ room) (wide : 128 ≤ length out)
+module _ (ln e l : ℕ) (c : Call) (store out : List ℕ) (a : Result (Option ℕ) Refusal) (st : code.Stage) (n : ℕ) (store' out' : List ℕ) (size : length store ≡ room) (wide : 128 ≤ length out)
     (meets : Meets (call_in c) store (told a) store') (counts : Counts c (told a) e l st) (wrote : Wrote out 0 (spoken (replied ln (told a))) out' n) where
   abbrev after : State → State
   after m = call (call_in c) room m
@@ -227,33 +225,27 @@ other_line ln e l x store out n out' h wide w = record {
 
 -- ---- the opening
 
-no_refusal : (a : Answer) → OneOf (0 ∷ 1 ∷ []) (tag_of answers.the_type a) → (k : ℕ) → told a ≡ refused k → ⊥
-unfolding told
-no_refusal answer.Done h k e = let z : ◌≡◌ {A = ℕ} 0 1 = cc in omega arith
-no_refusal (answer.First id) h k e = let z : ◌≡◌ {A = ℕ} 0 1 = cc in omega arith
-no_refusal (answer.Refused k) h j e = miss (0 ∷ 1 ∷ []) 2 tt h
-
-module _ (n : ℕ) (f : forms.Form) (E A : ℕ) (ls store out : List ℕ) (a : Answer) (store' : List ℕ) (size : length store ≡ room)
-    (opens : Opens (opening n E A (form_of f) (take (4 * n) ls) (length store)) store (told a) store') where
+module _ (n : ℕ) (f : forms.Form) (E A : ℕ) (ls store out : List ℕ) (a : Result Unit OpenError) (store' : List ℕ) (size : length store ≡ room)
+    (opens : Opens (opening n E A (form_of f) (take (4 * n) ls) (length store)) store (told_open a) store') where
   abbrev o : Opening
   o = opening n E A (form_of f) (take (4 * n) ls) room
 
-  Opens-o : Opens o store (told a) store'
-  Opens-o = subst (λ (w : ℕ). Opens (opening n E A (form_of f) (take (4 * n) ls) w) store (told a) store') size opens
+  Opens-o : Opens o store (told_open a) store'
+  Opens-o = subst (λ (w : ℕ). Opens (opening n E A (form_of f) (take (4 * n) ls) w) store (told_open a) store') size opens
 
   all_read : {X : Type 0} (x y : X) → cond (ltb n n) x y ≡ y
   all_read x y = rw (le-ltb n n (omega arith))
 
-  pub refused_opening : (k j : ℕ) (out' : List ℕ) → a ≡ answer.Refused k → 128 ≤ length out → Wrote out 0 (spoken (not_opened k)) out' j
+  pub refused_opening : (k j : ℕ) (out' : List ℕ) → told_open a ≡ refused k → 128 ≤ length out → Wrote out 0 (spoken (not_opened k)) out' j
       → Tells settled (at.Labels n f E A n) ls store out (runs.Stop j) ls store' out'
-  unfolding told tried number
+  unfolding tried number
   refused_opening k j out' u wide w = record {
     ends = said_of (not_opened k) out out' j w wide;
     is = λ m h. (m, tt, all_read _ _ ∙ go (ℕ_discrete (open_answer o) 0));
   }
     where
       says_k : refused k ≡ cond (eqb (open_answer o) 0) accepted (refused (open_answer o))
-      says_k = ap told (sym u) ∙ Opens-o.answer
+      says_k = sym u ∙ Opens-o.answer
 
       go : Dec (open_answer o ≡ 0) → tried o ≡ stop (take j out')
       go (yes z) = absurd (never (says_k ∙ ap (λ (b : Bool). cond b accepted (refused (open_answer o))) (eq-eqb (open_answer o) 0 z)))
@@ -269,7 +261,7 @@ module _ (n : ℕ) (f : forms.Form) (E A : ℕ) (ls store out : List ℕ) (a : A
   unfolding opened opening tally keep
   first few h = record { held = h; few = few; events = refl; live = refl }
 
-  pub done_opening : OneOf (0 ∷ 1 ∷ []) (tag_of answers.the_type a) → E ≤ 48 → Tells settled (at.Labels n f E A n) ls store out (runs.On (at.Running 0 0) 0) ls store' out
+  pub done_opening : told_open a ≡ accepted → E ≤ 48 → Tells settled (at.Labels n f E A n) ls store out (runs.On (at.Running 0 0) 0) ls store' out
   unfolding tried
   done_opening h few = go (ℕ_discrete (open_answer o) 0)
     where
@@ -278,7 +270,10 @@ module _ (n : ℕ) (f : forms.Form) (E A : ℕ) (ls store out : List ℕ) (a : A
         ends = (tt, nothing_said out);
         is = λ m u. (opened o, first few (Opens-o.becomes z).held, all_read _ _ ∙ ap (λ (b : Bool). cond b (on (running (opened o)) []) (stop (spoken (not_opened (open_answer o))))) (eq-eqb (open_answer o) 0 z));
       }
-      go (no z) = absurd (no_refusal a h (open_answer o) (Opens-o.answer ∙ ap (λ (b : Bool). cond b accepted (refused (open_answer o))) (ne_eqb (open_answer o) 0 z)))
+      go (no z) = absurd (never (sym h ∙ Opens-o.answer ∙ ap (λ (b : Bool). cond b accepted (refused (open_answer o))) (ne_eqb (open_answer o) 0 z)))
+        where
+          never : {k : ℕ} → accepted ≡ refused k → ⊥
+          never e = let y : ◌≡◌ {A = ℕ} 0 1 = cc in omega arith
 
 -- ---- to a stage
 

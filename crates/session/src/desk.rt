@@ -14,7 +14,7 @@ use super::stages::{Ran, Stage};
 use frame::axes::Kind;
 use history::forms::Form;
 use partner::calls::{Call, apply, look, open};
-use store::answers::Answer;
+use store::refusals::Refusal;
 use text::answers::{write_answer, write_bad, write_not_opened, write_sight};
 use text::lines::{Line, read_line};
 
@@ -35,8 +35,8 @@ fn try_open(
 {
     let end = 4 * n;
     match open(store, n, events, steps, form, &labels[..end]) {
-        Answer::Refused(k) => Ran::Stop(write_not_opened(k, out)),
-        _ => Ran::On(Stage::Running { events: 0, live: 0 }, 0),
+        Err(e) => Ran::Stop(write_not_opened(e.code(), out)),
+        Ok(_) => Ran::On(Stage::Running { events: 0, live: 0 }, 0),
     }
 }
 
@@ -94,7 +94,7 @@ fn kills(c: Call) -> u64
 
 // The counts of the end line after a call and its answer: "events recorded less events killed". On a store of this program there are at most 48 events;
 // the two tests keep the sums in 64 bits on any other.
-fn count(c: Call, a: Answer, events: u64, live: u64) -> Stage
+fn count(c: Call, a: Result<Option<usize>, Refusal>, events: u64, live: u64) -> Stage
     ensures { Counts c (promised a) events live result }
 {
     if events > 48 {
@@ -110,21 +110,21 @@ fn count(c: Call, a: Answer, events: u64, live: u64) -> Stage
         };
     }
     match a {
-        Answer::First(_) => {
+        Ok(Some(_)) => {
             let k = records(c);
             Stage::Running {
                 events: events + k,
                 live: live + k,
             }
         }
-        Answer::Done => {
+        Ok(None) => {
             let left = less(live, kills(c));
             Stage::Running {
                 events: events,
                 live: left,
             }
         }
-        Answer::Refused(_) => Stage::Running {
+        Err(_) => Stage::Running {
             events: events,
             live: live,
         },

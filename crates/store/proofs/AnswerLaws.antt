@@ -10,6 +10,9 @@ use borrow.Author.Tests.{lt-ltb, le-ltb}
 use Rattle.model.specs.Events.{State, some}
 use Rattle.model.specs.Calls.{answer, twice}
 use Rattle.store.specs.Stores.{Stored}
+use Rattle.store.specs.declared.refusals.Refusal.{Refusal}
+use Rattle.store.specs.declared.refusals.Refusal.TheVariants.{TooShort, NoSuchQubit, SameQubit, Full, NoSuchEvent, Turn, Corrupt}
+use Rattle.store.specs.Refusals.{code_of}
 use Rattle.store.specs.Promises.{turn_known, qubit_number}
 
 -- what is left of the answer once the qubits are there and differ
@@ -69,3 +72,14 @@ qubit_small n qs = go (some (leb n) qs) (twice qs)
     go true b = omega arith
     go false true = omega arith
     go false false = omega arith
+
+-- ---- the number of a refusal
+
+pub code_some : (e : Refusal) → 1 ≤ code_of e
+code_some TooShort = omega arith
+code_some NoSuchQubit = omega arith
+code_some SameQubit = omega arith
+code_some Full = omega arith
+code_some NoSuchEvent = omega arith
+code_some Turn = omega arith
+code_some Corrupt = omega arith

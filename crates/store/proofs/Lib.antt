@@ -2,6 +2,7 @@
 -- A part that was lent and came back; the sizes; the parts of a store; the numbers of the answers; and each way in which a call ends.
 pub mod Splice
 pub mod SizeLaws
+pub mod QubitLaws
 pub mod StoreLaws
 pub mod AnswerLaws
 pub mod MeetLaws

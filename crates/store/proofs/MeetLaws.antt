@@ -13,7 +13,10 @@ use Rattle.model.proofs.Theorems.{refusal_changes_nothing}
 use Rattle.model.proofs.Good.{Good, reached}
 use Rattle.store.specs.Stores.{Reached, Held, StoredTo, HeldTo}
 use Rattle.store.specs.Promises.{number, Answers, Meets}
-use Rattle.store.specs.Checks.{Enough, TooShort, Damaged}
+use Rattle.store.specs.Checks.{Enough, TooShort as Short, Damaged, Unsound}
+use Rattle.store.specs.declared.refusals.Refusal.{Refusal}
+use Rattle.store.specs.declared.refusals.Refusal.TheVariants.{TooShort, NoSuchQubit, SameQubit, Full, NoSuchEvent, Turn, Corrupt}
+use Rattle.store.specs.Refusals.{code_of}
 use Rattle.store.proofs.SizeLaws.{Stored-long}
 
 -- ---- states that calls leave
@@ -40,7 +43,7 @@ Reached-Good m r = subst Good (sym r.is) (reached r.first r.accepted r.since)
 
 -- ---- a slice that is not too short
 
-Enough-long : (s : List ℕ) → Enough s → TooShort s → ⊥
+Enough-long : (s : List ℕ) → Enough s → Short s → ⊥
 Enough-long s e (inl a) = omega (arith, e.header)
 Enough-long s e (inr a) = omega (arith, e.size)
 
@@ -56,7 +59,7 @@ module _ (c : Call) (s : List ℕ) where
     meaning = h;
   }
 
-  pub short_Answers : TooShort s → Answers c s (refused 3)
+  pub short_Answers : Short s → Answers c s (refused 3)
   unfolding number
   short_Answers t = record {
     headless = λ a. refl;
@@ -72,6 +75,15 @@ module _ (c : Call) (s : List ℕ) where
 
   pub Damaged-Answers : Damaged s → Answers c s (refused 9)
   Damaged-Answers d = nine_Answers d.0 (λ m q. d.1 m q.stored)
+
+  pub unsound_Answers : (e : Refusal) → Unsound e s → Answers c s (refused (code_of e))
+  unsound_Answers TooShort t = short_Answers t
+  unsound_Answers NoSuchQubit t = absurd t
+  unsound_Answers SameQubit t = absurd t
+  unsound_Answers Full t = absurd t
+  unsound_Answers NoSuchEvent t = absurd t
+  unsound_Answers Turn t = absurd t
+  unsound_Answers Corrupt d = Damaged-Answers d
 
   refused-reply : (m : State) (k : ℕ) → answer_to c (length s) m ≡ suc k → refused (suc k) ≡ reply c (length s) m
   unfolding reply
@@ -100,7 +112,7 @@ module _ (c : Call) (s : List ℕ) where
       subst (λ (v : State). HeldTo v s s) (sym (refusal_changes_nothing c (length s) m e))
       (record { held = h; only = record { same_length = refl; kept = λ k u. refl } })
 
-  pub short_Meets : TooShort s → Meets c s (refused 3) s
+  pub short_Meets : Short s → Meets c s (refused 3) s
   short_Meets t = record {
     answers = short_Answers t;
     untouched = λ a b. refl;
@@ -130,6 +142,16 @@ module _ (c : Call) (s : List ℕ) where
 
   pub Damaged-Meets : Damaged s → Meets c s (refused 9) s
   Damaged-Meets d = nine_Meets d.0 s refl (λ m q. d.1 m q.stored)
+
+  -- a slice that a call refuses before it does anything
+  pub unsound_Meets : (e : Refusal) → Unsound e s → Meets c s (refused (code_of e)) s
+  unsound_Meets TooShort t = short_Meets t
+  unsound_Meets NoSuchQubit t = absurd t
+  unsound_Meets SameQubit t = absurd t
+  unsound_Meets Full t = absurd t
+  unsound_Meets NoSuchEvent t = absurd t
+  unsound_Meets Turn t = absurd t
+  unsound_Meets Corrupt d = Damaged-Meets d
 
   pub accept_Meets : Enough s → (r : Reply) → number r ≡ 0 → (t : List ℕ) → length t ≡ length s
       → ((m : State) → Held m s → (answer_to c (length s) m ≡ 0) × (r ≡ reply_of c m) × StoredTo (effect c (length s) m) s t) → Meets c s r t

@@ -26,8 +26,11 @@ use Rattle.history.specs.Sizes.{form_of, Narrow}
 use Rattle.history.specs.declared.forms.Form as forms
 use Rattle.history.specs.declared.forms.Form.TheVariants.{Scalar, Sliced}
 use Rattle.store.specs.Stores.{part, frame_size, history_place, form_code, Header, StoredTo}
-use Rattle.store.specs.declared.answers.Answer.TheVariants.{Done, Refused}
-use Rattle.store.specs.Promises.{told, Opens}
+use Rattle.std.specs.Prelude.{Err}
+use Rattle.store.specs.declared.refusals.OpenError.{OpenError}
+use Rattle.store.specs.declared.refusals.OpenError.TheVariants.{Sizes, Events, TooShort}
+use Rattle.store.specs.Refusals.{open_code_of}
+use Rattle.store.specs.Promises.{told_open, Opens}
 use Rattle.store.specs.Checks.{Stamped}
 use Rattle.store.proofs.Splice.{splice, part_length, splice-length, splice_out, splice-part, splice_other}
 use Rattle.store.proofs.SizeLaws.{need_is, Accepted, accepted as sizes_of, some_plane, frame_fits, room_small}
@@ -297,29 +300,29 @@ middle_long n l e t ys is fits long =
     let k : frame_size n l ≡ e - 14 = omega (arith, is) in
     splice-length 14 (e - 14) t (omega arith) ys (long ∙ k)
 
--- the history's part as it is lent
-pub lent_history : (n E : ℕ) (f : Form) (ws : List ℕ) (w e : ℕ) (t : List ℕ) → Begins n E f ws w → e ≡ history_place n ((n + 63) / 64) + history_room f n E ((n + 63) / 64) → e ≤ length t
-    → history.Sized f n E ((n + 63) / 64) (part (history_place n ((n + 63) / 64)) (e - history_place n ((n + 63) / 64)) t)
-lent_history n E f ws w e t b is fits =
-    let k : e - history_place n ((n + 63) / 64) ≡ history_room f n E ((n + 63) / 64) = omega (arith, is) in
+-- the history's part, from a on, as it is lent
+pub lent_history : (n E : ℕ) (f : Form) (ws : List ℕ) (w a e : ℕ) (t : List ℕ) → Begins n E f ws w → a ≡ history_place n ((n + 63) / 64) → e ≡ a + history_room f n E ((n + 63) / 64) → e ≤ length t
+    → history.Sized f n E ((n + 63) / 64) (part a (e - a) t)
+lent_history n E f ws w a e t b at is fits =
+    let k : e - a ≡ history_room f n E ((n + 63) / 64) = omega (arith, is) in
     record {
       some = b.some_event;
       few = b.few_events;
       planes = b.planes;
       narrow = b.narrow;
-      long = part_length (history_place n ((n + 63) / 64)) (e - history_place n ((n + 63) / 64)) t (omega (arith, is)) ∙ k;
+      long = part_length a (e - a) t (omega (arith, is)) ∙ k;
     }
 
--- the whole, with l as the code computes it
-pub begun : (n E A : ℕ) (f : Form) (ws s t ys zs : List ℕ) (j k : ℕ) → j ≡ frame_size n ((n + 63) / 64) → k ≡ history_room f n E ((n + 63) / 64)
+-- the whole, with l and the history's place a as the code computes them
+pub begun : (n E A : ℕ) (f : Form) (ws s t ys zs : List ℕ) (j k a : ℕ) → a ≡ history_place n ((n + 63) / 64) → j ≡ frame_size n ((n + 63) / 64) → k ≡ history_room f n E ((n + 63) / 64)
     → open_answer (opening n E A f ws (length s)) ≡ 0 → Stamped s n E A f t → frames.Held n ((n + 63) / 64) (fresh n) (label_rows ws) ys
-    → ((o : Opening) → o.form ≡ f → o.n ≡ n → words o.n ≡ (n + 63) / 64 → o.capacity ≡ E
-    → Becomes f n E ((n + 63) / 64) (opened o) (part (history_place n ((n + 63) / 64)) k (splice 14 j t ys)) zs)
-    → StoredTo (opened (opening n E A f ws (length s))) s (splice (history_place n ((n + 63) / 64)) k (splice 14 j t ys) zs)
+    → ((o : Opening) → o.form ≡ f → o.n ≡ n → words o.n ≡ (n + 63) / 64 → o.capacity ≡ E → Becomes f n E ((n + 63) / 64) (opened o) (part a k (splice 14 j t ys)) zs)
+    → StoredTo (opened (opening n E A f ws (length s))) s (splice a k (splice 14 j t ys) zs)
 unfolding words opening
-begun n E A f ws s t ys zs j k first rest answer stamp framed made =
-    opened_to n E A f ws s t ys zs j k first rest answer (omega (arith, (begins n E A f ws (length s) answer).fits, rest)) stamp framed
-    (made (opening n E A f ws (length s)) refl refl refl refl)
+begun n E A f ws s t ys zs j k a at first rest answer stamp framed made =
+    subst (λ (x : ℕ). StoredTo (opened (opening n E A f ws (length s))) s (splice x k (splice 14 j t ys) zs)) (sym at)
+    (opened_to n E A f ws s t ys zs j k first rest answer (omega (arith, (begins n E A f ws (length s) answer).fits, rest)) stamp framed
+    (subst (λ (x : ℕ). Becomes f n E ((n + 63) / 64) (opened (opening n E A f ws (length s))) (part x k (splice 14 j t ys)) zs) at (made (opening n E A f ws (length s)) refl refl refl refl)))
 
 -- ---- what `open` promises
 
@@ -337,19 +340,17 @@ open_done o s t e h = record {
   becomes = λ z. record { held = record { reached = Reached-open o e; stored = h.stored }; only = h.only };
 }
 
--- the same of the number that the code found
-module _ (n E A : ℕ) (f : Form) (ws s : List ℕ) (k : ℕ) (is : k ≡ open_number n E A f (length ws) (length s)) where
-  number_is : k ≡ open_answer (opening n E A f ws (length s))
+-- the same of what the code found
+module _ (n E A : ℕ) (f : Form) (ws s : List ℕ) where
+  pub refuses : (e : OpenError) → open_code_of e ≡ open_number n E A f (length ws) (length s) → Opens (opening n E A f ws (length s)) s (told_open (Err e)) s
   unfolding open_answer opening
-  number_is = is
+  refuses e is = open_refused (opening n E A f ws (length s)) s (open_code_of e) is (some e)
+    where
+      some : (e : OpenError) → open_code_of e ≢ 0
+      some Sizes = λ z. omega (arith, z)
+      some Events = λ z. omega (arith, z)
+      some TooShort = λ z. omega (arith, z)
 
-  pub number_zero : k ≡ 0 → open_answer (opening n E A f ws (length s)) ≡ 0
-  number_zero e = sym number_is ∙ e
-
-  pub refuses : k ≢ 0 → Opens (opening n E A f ws (length s)) s (told (Refused k)) s
-  unfolding told
-  refuses h = open_refused (opening n E A f ws (length s)) s k number_is h
-
-  pub Opens-it : k ≡ 0 → (t : List ℕ) → StoredTo (opened (opening n E A f ws (length s))) s t → Opens (opening n E A f ws (length s)) s (told Done) t
-  unfolding told
-  Opens-it e t h = open_done (opening n E A f ws (length s)) s t (number_zero e) h
+  pub number_zero : 0 ≡ open_number n E A f (length ws) (length s) → open_answer (opening n E A f ws (length s)) ≡ 0
+  unfolding open_answer opening
+  number_zero e = sym e

@@ -9,7 +9,7 @@ use native.Mathlib.Nat.{mul_comm, mul-le-mul, mul-le-mul_right}
 use native.Mathlib.Omega.{arith}
 use lib.ListN.{length, get_or}
 use lib.Dec.{eqb, leb}
-use borrow.Author.Tests.{ltb-false, leb-false, eqb-false, le-leb, lt-leb, eq-eqb, ne_eqb}
+use borrow.Author.Tests.{ltb-false, leb-false, eqb-false}
 use Rattle.model.specs.Events.{Form, scalar, sliced, Opening, State, words, plane, some}
 use Rattle.model.specs.Store.{header_room, frame_room, sketch_room, list_count, count_room, chain_room, event_room, live_room, axis_room, list_room, need}
 use Rattle.model.specs.Calls.{is_too_wide, open_answer, twice}
@@ -21,13 +21,9 @@ use Rattle.history.specs.Sizes.{form_of, Narrow}
 use Rattle.history.specs.declared.forms.Form as forms
 use Rattle.history.specs.declared.forms.Form.TheVariants.{Scalar, Sliced}
 use Rattle.store.specs.declared.header.Sizes.{Sizes}
-use Rattle.store.specs.declared.header.Framed.{Framed}
-use Rattle.store.specs.declared.header.Framed.TheVariants as framed
-use Rattle.store.specs.declared.header.Checked.{Checked}
-use Rattle.store.specs.declared.header.Checked.TheVariants as checked
 use Rattle.store.specs.Stores.{history_place, form_code, Stored}
 use Rattle.store.specs.Promises.{qubit_number}
-use Rattle.store.specs.Checks.{Enough, Framing, Fit, sizes, form_at, sizes_at, TooShort, Damaged, TellsFrame, TellsAll}
+use Rattle.store.specs.Checks.{Enough, Framing, Fit, sizes, form_at, sizes_at, TooShort}
 
 -- ---- the need of a store
 
@@ -223,16 +219,6 @@ fit_of s z f w narrow c a some few steps room e begins ends l = record {
   fits = omega (arith, l, f.enough.size);
 }
 
--- what `header::frame_sizes` told, by the case that it gave
-pub told_short : (s : List ℕ) (r : Framed) → r ≡ framed.Short → TellsFrame s r → TooShort s
-told_short s r e t = rw e at t
-
-pub told_bad : (s : List ℕ) (r : Framed) → r ≡ framed.Bad → TellsFrame s r → Damaged s
-told_bad s r e t = rw e at t
-
-pub told_Ready : (s : List ℕ) (r : Framed) (n l : ℕ) → r ≡ framed.Ready n l → TellsFrame s r → Framing n l s
-told_Ready s r n l e t = rw e at t
-
 -- the sizes that fit are those that the header says
 form_says : (s : List ℕ) (f : forms.Form) → get_or s 2 0 ≡ form_code (form_of f) → f ≡ form_at (get_or s 2 0)
 unfolding form_at form_code form_of
@@ -267,78 +253,8 @@ pub read_few : (s : List ℕ) → Fit (sizes_at s) s → (get_or s 1 0 ≤ 23168
 unfolding sizes_at
 read_few s h = (h.framing.few, h.few, h.steps)
 
--- and `header::check`
-pub tells_short : (s : List ℕ) (r : Checked) → r ≡ checked.Short → TellsAll s r → TooShort s
-tells_short s r e t = rw e at t
-
-pub tells_bad : (s : List ℕ) (r : Checked) → r ≡ checked.Bad → TellsAll s r → Damaged s
-tells_bad s r e t = rw e at t
-
-pub tells_Ready : (s : List ℕ) (r : Checked) → r ≡ checked.Ready → TellsAll s r → Fit (sizes_at s) s
-tells_Ready s r e t = rw e at t
-
 pub sliced-Narrow : (n l : ℕ) (s : List ℕ) → Framing n l s → n ≤ 32 → Narrow sliced n l
 sliced-Narrow n l s f h = (h, f.planes ∙ one_plane n f.some h)
-
--- ---- the qubits of a call
-
--- "4: a qubit is n or more"
-pub single_out : (n q : ℕ) → n ≤ q → 4 ≡ qubit_number n (q ∷ [])
-unfolding qubit_number some twice
-single_out n q h = rw (le-leb n q h) refl
-
-pub single_in : (n q : ℕ) → q < n → 0 ≡ qubit_number n (q ∷ [])
-unfolding qubit_number some twice
-single_in n q h = rw (lt-leb n q h) refl
-
-pub first_out : (n a b : ℕ) → n ≤ a → 4 ≡ qubit_number n (a ∷ b ∷ [])
-unfolding qubit_number some twice
-first_out n a b h = rw (le-leb n a h) refl
-
-pub second_out : (n a b : ℕ) → a < n → n ≤ b → 4 ≡ qubit_number n (a ∷ b ∷ [])
-unfolding qubit_number some twice
-second_out n a b h k = rw (lt-leb n a h, le-leb n b k) refl
-
--- "5: one gate names a qubit twice"
-pub pair_same : (n a b : ℕ) → a < n → b < n → a ≡ b → 5 ≡ qubit_number n (a ∷ b ∷ [])
-unfolding qubit_number some twice
-pair_same n a b h k e = rw (lt-leb n a h, lt-leb n b k, eq-eqb a b e) refl
-
-pub pair_in : (n a b : ℕ) → a < n → b < n → a ≢ b → 0 ≡ qubit_number n (a ∷ b ∷ [])
-unfolding qubit_number some twice
-pair_in n a b h k e = rw (lt-leb n a h, lt-leb n b k, ne_eqb a b e) refl
-
-module _ (n a b t : ℕ) where
-  pub triple_out₁ : n ≤ a → 4 ≡ qubit_number n (a ∷ b ∷ t ∷ [])
-  unfolding qubit_number some twice
-  triple_out₁ h = rw (le-leb n a h) refl
-
-  pub triple_out₂ : a < n → n ≤ b → 4 ≡ qubit_number n (a ∷ b ∷ t ∷ [])
-  unfolding qubit_number some twice
-  triple_out₂ h k = rw (lt-leb n a h, le-leb n b k) refl
-
-  pub triple_out₃ : a < n → b < n → n ≤ t → 4 ≡ qubit_number n (a ∷ b ∷ t ∷ [])
-  unfolding qubit_number some twice
-  triple_out₃ h k l = rw (lt-leb n a h, lt-leb n b k, le-leb n t l) refl
-
-  pub triple_same₁ : a < n → b < n → t < n → a ≡ b → 5 ≡ qubit_number n (a ∷ b ∷ t ∷ [])
-  unfolding qubit_number some twice
-  triple_same₁ h k l e = rw (lt-leb n a h, lt-leb n b k, lt-leb n t l, eq-eqb a b e) refl
-
-  pub triple_same₂ : a < n → b < n → t < n → a ≢ b → a ≡ t → 5 ≡ qubit_number n (a ∷ b ∷ t ∷ [])
-  unfolding qubit_number some twice
-  triple_same₂ h k l d e = rw (lt-leb n a h, lt-leb n b k, lt-leb n t l, ne_eqb a b d, eq-eqb a t e) refl
-
-  pub triple_same₃ : a < n → b < n → t < n → a ≢ b → a ≢ t → b ≡ t → 5 ≡ qubit_number n (a ∷ b ∷ t ∷ [])
-  unfolding qubit_number some twice
-  triple_same₃ h k l d e f = rw (lt-leb n a h, lt-leb n b k, lt-leb n t l, ne_eqb a b d, ne_eqb a t e, eq-eqb b t f) refl
-
-  pub triple_in : a < n → b < n → t < n → a ≢ b → a ≢ t → b ≢ t → 0 ≡ qubit_number n (a ∷ b ∷ t ∷ [])
-  unfolding qubit_number some twice
-  triple_in h k l d e f = rw (lt-leb n a h, lt-leb n b k, lt-leb n t l, ne_eqb a b d, ne_eqb a t e, ne_eqb b t f) refl
-
--- all of them, for a look through them
-pub ruleset triple_laws = (triple_out₁, triple_out₂, triple_out₃, triple_same₁, triple_same₂, triple_same₃, triple_in)
 
 -- ---- the machine's arithmetic
 

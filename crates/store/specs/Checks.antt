@@ -6,10 +6,8 @@ use Rattle.history.specs.Sizes.{form_of, Narrow}
 use Rattle.history.specs.declared.forms.Form as forms
 use Rattle.history.specs.declared.forms.Form.TheVariants as variants
 use Rattle.store.specs.declared.header.Sizes.{Sizes}
-use Rattle.store.specs.declared.header.Framed.{Framed}
-use Rattle.store.specs.declared.header.Framed.TheVariants as framed
-use Rattle.store.specs.declared.header.Checked.{Checked}
-use Rattle.store.specs.declared.header.Checked.TheVariants as checked
+use Rattle.store.specs.declared.refusals.Refusal.{Refusal}
+use Rattle.store.specs.declared.refusals.Refusal.TheVariants as refusal
 use Rattle.store.specs.Stores.{history_place, form_code, Stored}
 
 -- the slice is not too short
@@ -66,15 +64,15 @@ TooShort s = (length s < 14) ⊎ (length s < get_or s 0 0)
 abbrev pub Damaged : List ℕ → Type 0
 Damaged s = Enough s × ((m : State) → Stored m s → ⊥)
 
-abbrev pub TellsFrame : List ℕ → Framed → Type 0
-TellsFrame s (framed.Ready n l) = Framing n l s
-TellsFrame s framed.Short = TooShort s
-TellsFrame s framed.Bad = Damaged s
-
-abbrev pub TellsAll : List ℕ → Checked → Type 0
-TellsAll s checked.Ready = Fit (sizes_at s) s
-TellsAll s checked.Short = TooShort s
-TellsAll s checked.Bad = Damaged s
+-- why a call refuses a slice before it does anything: it is too short, or its words hold no state
+abbrev pub Unsound : Refusal → List ℕ → Type 0
+Unsound refusal.TooShort s = TooShort s
+Unsound refusal.NoSuchQubit s = ⊥
+Unsound refusal.SameQubit s = ⊥
+Unsound refusal.Full s = ⊥
+Unsound refusal.NoSuchEvent s = ⊥
+Unsound refusal.Turn s = ⊥
+Unsound refusal.Corrupt s = Damaged s
 
 -- ---- an opening's header
 

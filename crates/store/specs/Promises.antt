@@ -1,12 +1,13 @@
 -- The promise of a call, in one form for all of them (DESIGN.md 3): s is the slice at entry, t at exit, r what the call gives back. On any contents:
 -- a slice that is too short gets 3, no number is above 9, and an answer from 1 to 8 leaves every word. On words that hold a state m that calls can leave:
 -- the answer is `model`'s, and every word is the new state's or, where that relies on none, as at entry. Assumes nothing.
-use Rattle.std.specs.Prelude.{◌≡◌, Bool, cond, ◌||◌, List, ℕ, ◌≤◌, ◌<◌, length, get_or, eqb, leb}
+use Rattle.std.specs.Prelude.{◌≡◌, Option, Some, None, Result, Ok, Err, Bool, cond, ◌||◌, List, ℕ, ◌≤◌, ◌<◌, length, get_or, eqb, leb}
 use Rattle.model.specs.Events.{Opening, State, some}
 use Rattle.model.specs.Search.{found, none, blocked, out}
 use Rattle.model.specs.Calls.{Call, Reply, refused, accepted, recorded, says, looked, open_answer, opened, twice, reply, call}
-use Rattle.store.specs.declared.answers.Answer.{Answer}
-use Rattle.store.specs.declared.answers.Answer.TheVariants as answer
+use Rattle.store.specs.declared.refusals.OpenError.{OpenError}
+use Rattle.store.specs.declared.refusals.Refusal.{Refusal}
+use Rattle.store.specs.Refusals.{code_of, open_code_of}
 use Rattle.store.specs.declared.answers.Reading.{Reading}
 use Rattle.store.specs.declared.answers.Reading.TheVariants as reading
 use Rattle.store.specs.declared.answers.Sight.{Sight}
@@ -23,11 +24,25 @@ number (recorded id) = 0
 number (says v) = 0
 number (looked a) = 0
 
-unfoldable pub told : Answer → Reply
-told answer.Done = accepted
-told (answer.First id) = recorded id
-told (answer.Refused k) = refused k
+-- the reply of a result: of an opening; of a call that is done, or that recorded, or that is one or the other
+abbrev pub told_open : Result Unit OpenError → Reply
+told_open (Ok u) = accepted
+told_open (Err e) = refused (open_code_of e)
 
+abbrev pub told_done : Result Unit Refusal → Reply
+told_done (Ok u) = accepted
+told_done (Err e) = refused (code_of e)
+
+abbrev pub told_first : Result ℕ Refusal → Reply
+told_first (Ok id) = recorded id
+told_first (Err e) = refused (code_of e)
+
+abbrev pub told : Result (Option ℕ) Refusal → Reply
+told (Ok None) = accepted
+told (Ok (Some id)) = recorded id
+told (Err e) = refused (code_of e)
+
+-- of a read and of a look
 unfoldable pub told_read : Reading → Reply
 told_read (reading.Says tag sgn live) = says (record { tag = tag; sgn = sgn; live = live })
 told_read (reading.Refused k) = refused k

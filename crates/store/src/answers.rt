@@ -1,13 +1,5 @@
 // What the calls give back, each as one value. specs/Promises.antt gives 01's number and values for each case.
 
-// Done; or done, and the first event that was recorded has this number; or refused, with 01's number.
-#[derive(Clone, Copy)]
-pub enum Answer {
-    Done,
-    First(usize),
-    Refused(u32),
-}
-
 // What a read gives: tag, sign and whether the rotation is live; or that the read is refused.
 #[derive(Clone, Copy)]
 pub enum Reading {

@@ -1,12 +1,13 @@
 // The header of a store: word 0 is the length of the slice at its opening, then n, the form (0 scalar, 1 sliced), E and A. A call first asks whether
 // the slice that it is lent is shorter than that (01: answer 3), and whether the sizes are in their ranges and have the words they need: on words that no opening
 // wrote a call must stay inside its slice too (answer 9).
-ghost use Rattle.std.specs.Prelude.{◌≡◌, ◌≤◌, ◌^◌, get_or};
+ghost use Rattle.std.specs.Prelude.{◌≡◌, ◌≤◌, ◌^◌, get_or, MatchResult};
 ghost use Rattle.history.specs.Words.{history_room};
 ghost use Rattle.history.specs.Sizes.{form_of, Narrow};
-ghost use Rattle.store.specs.Stores.{form_code};
-ghost use Rattle.store.specs.Checks.{Framing, Fit, form_at, sizes_at, TellsFrame, TellsAll};
+ghost use Rattle.store.specs.Stores.{form_code, history_place};
+ghost use Rattle.store.specs.Checks.{Framing, Fit, form_at, sizes_at, Unsound};
 
+use super::refusals::Refusal;
 use history::forms::Form;
 
 // The sizes of a store: n qubits, l words to a plane, the form of its lists, the room for events and the steps of a look; and where the history's
@@ -22,45 +23,35 @@ pub struct Sizes {
     pub end: usize,
 }
 
-// What the frames' part of the header says: n and l; or that the slice is too short; or that a word is out of its range.
-#[derive(Clone, Copy)]
-pub enum Framed {
-    Ready(usize, usize),
-    Short,
-    Bad,
+// Where the history's part begins: behind the header and both frames.
+#[inline]
+pub fn history_place(n: usize, l: usize) -> usize
+    requires { (n ≤ 23168) × (l ≤ 362) }
+    ensures { result ≡ history_place n l }
+{
+    14 + (2 * n * (2 * l + 1) + 2 * (2 * n))
 }
 
-// What the whole header says: its sizes are in their ranges and all their words are there (`sizes_of` reads them); or as above.
-#[derive(Clone, Copy)]
-pub enum Checked {
-    Ready,
-    Short,
-    Bad,
-}
-
-// What a gate and a turn have to know of a store: the frames stand right behind the header, so that neither E nor the form is read.
-pub fn frame_sizes(s: &[u64]) -> Framed
-    ensures { TellsFrame s.now result }
+// What a gate and a turn have to know of a store, n and l: the frames stand right behind the header, so that neither E nor the form is read.
+pub fn frame_sizes(s: &[u64]) -> Result<(usize, usize), Refusal>
+    ensures { MatchResult result (λ z. Framing z.0 z.1 s.now) (λ e. Unsound e s.now) }
 {
     if s.len() < 14 {
-        return Framed::Short;
+        return Err(Refusal::TooShort);
     }
     let size = s[0] as usize;
     if s.len() < size {
-        return Framed::Short;
+        return Err(Refusal::TooShort);
     }
     let n = s[1] as usize;
-    if n == 0 {
-        return Framed::Bad;
-    }
-    if 23168 < n {
-        return Framed::Bad;
+    if n == 0 || 23168 < n {
+        return Err(Refusal::Corrupt);
     }
     let l = (n + 63) / 64;
-    if size < 14 + (2 * n * (2 * l + 1) + 2 * (2 * n)) {
-        return Framed::Bad;
+    if size < history_place(n, l) {
+        return Err(Refusal::Corrupt);
     }
-    Framed::Ready(n, l)
+    Ok((n, l))
 }
 
 // The words of the history's part.
@@ -80,51 +71,36 @@ pub fn history_room(form: Form, n: usize, l: usize, cap: usize) -> usize
 
 // What every other call asks of a store. The sizes are not in the answer: with them it would go through memory (docs/SPEED.md). `sizes_of` reads
 // them again where they are used.
-pub fn check(s: &[u64]) -> Checked
-    ensures { TellsAll s.now result }
+pub fn check(s: &[u64]) -> Result<(), Refusal>
+    ensures { MatchResult result (λ _. Fit (sizes_at s.now) s.now) (λ e. Unsound e s.now) }
 {
-    match frame_sizes(s) {
-        Framed::Short => Checked::Short,
-        Framed::Bad => Checked::Bad,
-        Framed::Ready(n, l) => {
-            let form = s[2];
-            if form == 0 {
-                return sized(s, n, l, Form::Scalar);
-            }
-            if form != 1 {
-                return Checked::Bad;
-            }
-            if 32 < n {
-                return Checked::Bad;
-            }
-            sized(s, n, l, Form::Sliced)
-        }
+    let (n, l) = frame_sizes(s)?;
+    let form = s[2];
+    if form == 0 {
+        sized(s, n, l, Form::Scalar)
+    } else if form == 1 && n <= 32 {
+        sized(s, n, l, Form::Sliced)
+    } else {
+        Err(Refusal::Corrupt)
     }
 }
 
 // The same of a store of this form, n and l.
-fn sized(s: &[u64], n: usize, l: usize, form: Form) -> Checked
+fn sized(s: &[u64], n: usize, l: usize, form: Form) -> Result<(), Refusal>
     requires { Framing n l s.now × (get_or s.now 2 0 ≡ form_code (form_of form)) × Narrow (form_of form) n l }
-    ensures { TellsAll s.now result }
+    ensures { MatchResult result (λ _. Fit (sizes_at s.now) s.now) (λ e. Unsound e s.now) }
 {
     let size = s[0] as usize;
     let cap = s[3] as usize;
     let allowance = s[4];
-    if cap == 0 {
-        return Checked::Bad;
+    if cap == 0 || 16777216 < cap || 1048576 < allowance {
+        return Err(Refusal::Corrupt);
     }
-    if 16777216 < cap {
-        return Checked::Bad;
-    }
-    if 1048576 < allowance {
-        return Checked::Bad;
-    }
-    let at = 14 + (2 * n * (2 * l + 1) + 2 * (2 * n));
-    let end = at + history_room(form, n, l, cap);
+    let end = history_place(n, l) + history_room(form, n, l, cap);
     if size < end {
-        return Checked::Bad;
+        return Err(Refusal::Corrupt);
     }
-    Checked::Ready
+    Ok(())
 }
 
 // The form that a word of the header says.
@@ -132,9 +108,10 @@ fn form_at(word: u64) -> Form
     ensures { result ≡ form_at word }
 {
     if word == 0 {
-        return Form::Scalar;
+        Form::Scalar
+    } else {
+        Form::Sliced
     }
-    Form::Sliced
 }
 
 // The sizes of a store whose header was found in order.
@@ -146,16 +123,16 @@ pub fn sizes_of(s: &[u64]) -> Sizes
     let l = (n + 63) / 64;
     let form = form_at(s[2]);
     let cap = s[3] as usize;
-    let steps = s[4] as u32;
-    let at = 14 + (2 * n * (2 * l + 1) + 2 * (2 * n));
+    let allowance = s[4] as u32;
+    let at = history_place(n, l);
     let end = at + history_room(form, n, l, cap);
     Sizes {
-        n: n,
-        l: l,
-        form: form,
-        cap: cap,
-        allowance: steps,
-        at: at,
-        end: end,
+        n,
+        l,
+        form,
+        cap,
+        allowance,
+        at,
+        end,
     }
 }

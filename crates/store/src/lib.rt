@@ -6,3 +6,4 @@ pub mod answers;
 pub mod header;
 pub mod opening;
 pub mod qubits;
+pub mod refusals;

@@ -4,11 +4,12 @@ ghost use Rattle.std.specs.Prelude.{◌≡◌, ◌≤◌, length};
 ghost use Rattle.model.specs.Calls.{is_too_wide, open_number, open_answer, opened, opening};
 ghost use Rattle.history.specs.Sizes.{form_of};
 ghost use Rattle.store.specs.Stores.{form_code, StoredTo};
-ghost use Rattle.store.specs.Promises.{told, Opens};
+ghost use Rattle.store.specs.Promises.{told_open, Opens};
+ghost use Rattle.store.specs.Refusals.{open_number_of};
 ghost use Rattle.store.specs.Checks.{Stamped};
 
-use super::answers::Answer;
-use super::header::history_room;
+use super::header::{history_place, history_room};
+use super::refusals::OpenError;
 use history::forms::Form;
 
 // "The sliced form takes n up to 32."
@@ -21,47 +22,31 @@ fn too_wide(form: Form, n: usize) -> bool
     }
 }
 
-// 0, or the number of the refusal: "At opening 1, 2, 3".
-pub fn open_number(
+// Whether an opening is accepted: "At opening 1, 2, 3".
+pub fn check_opening(
     n: usize,
     cap: usize,
     allowance: u64,
     form: Form,
     labels: usize,
     words: usize,
-) -> u32
-    ensures { result ≡ open_number n cap allowance (form_of form) labels words }
+) -> Result<(), OpenError>
+    ensures { open_number_of result ≡ open_number n cap allowance (form_of form) labels words }
 {
-    if n == 0 {
-        return 1;
+    if n == 0 || 23168 < n || 1048576 < allowance || too_wide(form, n) {
+        return Err(OpenError::Sizes);
     }
-    if 23168 < n {
-        return 1;
-    }
-    if 1048576 < allowance {
-        return 1;
-    }
-    if too_wide(form, n) {
-        return 1;
-    }
-    if cap == 0 {
-        return 2;
-    }
-    if 16777216 < cap {
-        return 2;
+    if cap == 0 || 16777216 < cap {
+        return Err(OpenError::Events);
     }
     let l = (n + 63) / 64;
     if 33554432 < 2 * l * cap {
-        return 2;
+        return Err(OpenError::Events);
     }
-    if labels != 4 * n {
-        return 3;
+    if labels != 4 * n || words < history_place(n, l) + history_room(form, n, l, cap) {
+        return Err(OpenError::TooShort);
     }
-    let at = 14 + (2 * n * (2 * l + 1) + 2 * (2 * n));
-    if words < at + history_room(form, n, l, cap) {
-        return 3;
-    }
-    0
+    Ok(())
 }
 
 // The word of the header that says the form.
@@ -92,7 +77,7 @@ fn begin(s: &mut [u64], n: usize, cap: usize, allowance: u64, form: Form, labels
     ensures { StoredTo (opened (opening n cap allowance (form_of form) labels.now (length s.old))) s.old s.new }
 {
     let l = (n + 63) / 64;
-    let at = 14 + (2 * n * (2 * l + 1) + 2 * (2 * n));
+    let at = history_place(n, l);
     let end = at + history_room(form, n, l, cap);
     stamp(s, n, cap, allowance, form);
     frame::opening::fresh(&mut s[14..at], n, l, labels);
@@ -107,13 +92,10 @@ pub fn open(
     allowance: u64,
     form: Form,
     labels: &[u64],
-) -> Answer
-    ensures { Opens (opening n cap allowance (form_of form) labels.now (length s.old)) s.old (told result) s.new }
+) -> Result<(), OpenError>
+    ensures { Opens (opening n cap allowance (form_of form) labels.now (length s.old)) s.old (told_open result) s.new }
 {
-    let k = open_number(n, cap, allowance, form, labels.len(), s.len());
-    if k != 0 {
-        return Answer::Refused(k);
-    }
+    check_opening(n, cap, allowance, form, labels.len(), s.len())?;
     begin(s, n, cap, allowance, form, labels);
-    Answer::Done
+    Ok(())
 }

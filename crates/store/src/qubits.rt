@@ -1,53 +1,21 @@
-// Whether the qubits of a call are there and differ: 0, or the number of the refusal (01: "4: a qubit is n or more"; "5: one gate names a qubit
-// twice"; 4 comes first).
-ghost use Rattle.std.specs.Prelude.{◌≡◌, [], ◌∷◌};
+// Whether the qubits of a call are there and differ (01: "4: a qubit is n or more"; "5: one gate names a qubit twice"; 4 comes first).
+ghost use Rattle.std.specs.Prelude.{◌≡◌};
+ghost use Rattle.store.specs.Refusals.{number_of};
 ghost use Rattle.store.specs.Promises.{qubit_number};
 
-pub fn single(n: usize, q: usize) -> u32
-    ensures { result ≡ qubit_number n (q ∷ []) }
-{
-    if n <= q {
-        return 4;
-    }
-    0
-}
+use super::refusals::Refusal;
 
-pub fn pair(n: usize, a: usize, b: usize) -> u32
-    ensures { result ≡ qubit_number n (a ∷ b ∷ []) }
+#[inline]
+pub fn check_qubits(n: usize, qubits: &[usize]) -> Result<(), Refusal>
+    ensures { number_of result ≡ qubit_number n qubits.now }
 {
-    if n <= a {
-        return 4;
+    if qubits.iter().any(|&q| n <= q) {
+        return Err(Refusal::NoSuchQubit);
     }
-    if n <= b {
-        return 4;
+    for (i, q) in qubits.iter().enumerate() {
+        if qubits[i + 1..].contains(q) {
+            return Err(Refusal::SameQubit);
+        }
     }
-    if a == b {
-        return 5;
-    }
-    0
-}
-
-#[tactic(auto, using(crate::proofs::SizeLaws::triple_laws))]
-pub fn triple(n: usize, a: usize, b: usize, t: usize) -> u32
-    ensures { result ≡ qubit_number n (a ∷ b ∷ t ∷ []) }
-{
-    if n <= a {
-        return 4;
-    }
-    if n <= b {
-        return 4;
-    }
-    if n <= t {
-        return 4;
-    }
-    if a == b {
-        return 5;
-    }
-    if a == t {
-        return 5;
-    }
-    if b == t {
-        return 5;
-    }
-    0
+    Ok(())
 }

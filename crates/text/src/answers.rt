@@ -7,7 +7,8 @@ ghost use Rattle.text.specs.Wrote.{Wrote};
 ghost use Rattle.text.specs.Spoken.{replied, bad, not_opened, end, spoken};
 
 use super::writing::write_by;
-use store::answers::{Answer, Sight};
+use store::answers::Sight;
+use store::refusals::Refusal;
 
 // "A refused operation prints its answer alone."
 fn write_refusal(line: u64, number: u32, out: &mut [u8]) -> usize
@@ -19,20 +20,20 @@ fn write_refusal(line: u64, number: u32, out: &mut [u8]) -> usize
 }
 
 // What a call that writes gave back.
-pub fn write_answer(line: u64, a: Answer, out: &mut [u8]) -> usize
+pub fn write_answer(line: u64, a: Result<Option<usize>, Refusal>, out: &mut [u8]) -> usize
     ensures { Wrote out.old 0 (spoken (replied line (told a))) out.new result }
 {
     match a {
-        Answer::Done => {
+        Ok(None) => {
             let v = [line];
             write_by(b"line=# answer=0\n", &v, out)
         }
-        Answer::First(first) => {
+        Ok(Some(first)) => {
             let id = first as u64;
             let v = [line, id];
             write_by(b"line=# answer=0 id=#\n", &v, out)
         }
-        Answer::Refused(number) => write_refusal(line, number, out),
+        Err(e) => write_refusal(line, e.code(), out),
     }
 }
 

@@ -7,272 +7,216 @@ use frame::axes::Kind;
 use gating::gates::Gate;
 use history::forms::Form;
 use partner::calls::{ccx, clear, gate, kill, look, measure, open, read, record};
-use std::io;
-use store::answers::{Answer, Reading, Sight};
+use std::{fmt, io};
+use store::answers::{Reading, Sight};
+use store::refusals::{OpenError, Refusal};
 
 // ---- what is written
 
-// Writes a text and a number.
-fn field(rt: &impl Print, name: &[u8], number: u64) -> io::Result<()> {
-    rt.write_all(name)?;
-    rt.print(number)
+// A line of the worked example, or one of the cases.
+#[derive(Clone, Copy)]
+enum Place {
+    Line(u32),
+    Case(u32),
 }
 
-// Writes a text and a sign.
-fn sign_field(rt: &impl Print, name: &[u8], sign: i8) -> io::Result<()> {
-    rt.write_all(name)?;
-    if sign == 1 {
-        rt.write_all(b"1")
-    } else {
-        rt.write_all(b"-1")
-    }
-}
-
-fn end_line(rt: &impl Print) -> io::Result<()> {
-    rt.write_all(b"\n")
-}
-
-// Writes an answer, with the event that was recorded.
-fn answer(rt: &impl Print, a: Answer) -> io::Result<()> {
-    match a {
-        Answer::Done => field(rt, b" answer=", 0)?,
-        Answer::First(id) => {
-            field(rt, b" answer=", 0)?;
-            field(rt, b" id=", id as u64)?;
+impl fmt::Display for Place {
+    fn fmt<W: fmt::Write>(&self, f: &mut fmt::Formatter<W>) -> fmt::Result {
+        match self {
+            Place::Line(number) => write!(f, "line={number}"),
+            Place::Case(number) => write!(f, "case={number}"),
         }
-        Answer::Refused(k) => field(rt, b" answer=", k as u64)?,
     }
-    end_line(rt)
+}
+
+// Writes what an opening gave back: "0: done", or 01's number of the refusal.
+fn opened(rt: &impl Print, at: Place, said: Result<(), OpenError>) -> io::Result<()> {
+    match said {
+        Ok(()) => println!(rt; "{at} answer=0"),
+        Err(e) => println!(rt; "{at} answer={}", e.code()),
+    }
+}
+
+// The same of a call that records nothing.
+fn done(rt: &impl Print, at: Place, said: Result<(), Refusal>) -> io::Result<()> {
+    match said {
+        Ok(()) => println!(rt; "{at} answer=0"),
+        Err(e) => println!(rt; "{at} answer={}", e.code()),
+    }
+}
+
+// The same of one that records, with the first event that it recorded.
+fn recorded(rt: &impl Print, at: Place, said: Result<usize, Refusal>) -> io::Result<()> {
+    match said {
+        Ok(id) => println!(rt; "{at} answer=0 id={id}"),
+        Err(e) => println!(rt; "{at} answer={}", e.code()),
+    }
 }
 
 // Writes what a look says.
-fn sight(rt: &impl Print, v: Sight) -> io::Result<()> {
-    match v {
+fn seen(rt: &impl Print, at: Place, said: Sight) -> io::Result<()> {
+    match said {
         Sight::Found { id, sign, steps } => {
-            field(rt, b" look=found id=", id as u64)?;
-            sign_field(rt, b" sign=", sign)?;
-            field(rt, b" steps=", steps as u64)?;
+            println!(rt; "{at} look=found id={id} sign={sign} steps={steps}")
         }
-        Sight::Nothing(steps) => field(rt, b" look=none steps=", steps as u64)?,
-        Sight::Blocked(steps) => field(rt, b" look=blocked steps=", steps as u64)?,
-        Sight::Out(steps) => field(rt, b" look=out steps=", steps as u64)?,
-        Sight::Refused(k) => field(rt, b" answer=", k as u64)?,
+        Sight::Nothing(steps) => println!(rt; "{at} look=none steps={steps}"),
+        Sight::Blocked(steps) => println!(rt; "{at} look=blocked steps={steps}"),
+        Sight::Out(steps) => println!(rt; "{at} look=out steps={steps}"),
+        Sight::Refused(k) => println!(rt; "{at} answer={k}"),
     }
-    end_line(rt)
 }
 
-// ---- one call each, with the line's name and number before its answer
-
-fn do_open(
-    rt: &impl Print,
-    s: &mut [u64],
-    name: &[u8],
-    number: u64,
-    n: usize,
-    events: usize,
-    steps: u64,
-    form: Form,
-    labels: &[u64],
-) -> io::Result<()> {
-    field(rt, name, number)?;
-    answer(rt, open(s, n, events, steps, form, labels))
-}
-
-fn do_gate(rt: &impl Print, s: &mut [u64], name: &[u8], number: u64, g: Gate) -> io::Result<()> {
-    field(rt, name, number)?;
-    answer(rt, gate(s, g))
-}
-
-fn do_record(
-    rt: &impl Print,
-    s: &mut [u64],
-    name: &[u8],
-    number: u64,
-    kind: Kind,
-    q: usize,
-    tag: u32,
-) -> io::Result<()> {
-    field(rt, name, number)?;
-    answer(rt, record(s, kind, q, tag))
-}
-
-fn do_measure(
-    rt: &impl Print,
-    s: &mut [u64],
-    name: &[u8],
-    number: u64,
-    q: usize,
-) -> io::Result<()> {
-    field(rt, name, number)?;
-    answer(rt, measure(s, q))
-}
-
-fn do_ccx(rt: &impl Print, s: &mut [u64], name: &[u8], number: u64) -> io::Result<()> {
-    field(rt, name, number)?;
-    answer(rt, ccx(s, 0, 1, 2))
-}
-
-fn do_kill(rt: &impl Print, s: &mut [u64], name: &[u8], number: u64, id: usize) -> io::Result<()> {
-    field(rt, name, number)?;
-    answer(rt, kill(s, id))
-}
-
-fn do_clear(rt: &impl Print, s: &mut [u64], name: &[u8], number: u64) -> io::Result<()> {
-    field(rt, name, number)?;
-    answer(rt, clear(s))
-}
-
-fn do_look(
-    rt: &impl Print,
-    s: &[u64],
-    name: &[u8],
-    number: u64,
-    kind: Kind,
-    q: usize,
-) -> io::Result<()> {
-    field(rt, name, number)?;
-    sight(rt, look(s, kind, q))
-}
-
-fn do_read(rt: &impl Print, s: &[u64], name: &[u8], number: u64, id: usize) -> io::Result<()> {
-    field(rt, name, number)?;
-    match read(s, id) {
-        Reading::Says { tag, sign, live } => {
-            field(rt, b" read tag=", tag as u64)?;
-            sign_field(rt, b" sign=", sign)?;
-        }
-        Reading::Refused(k) => field(rt, b" answer=", k as u64)?,
+// Writes what a read says.
+fn kept(rt: &impl Print, at: Place, said: Reading) -> io::Result<()> {
+    match said {
+        Reading::Says { tag, sign, live: _ } => println!(rt; "{at} read tag={tag} sign={sign}"),
+        Reading::Refused(k) => println!(rt; "{at} answer={k}"),
     }
-    end_line(rt)
 }
 
 // ---- 01's worked example, from its last label line on
 
 fn worked(rt: &impl Print, s: &mut [u64]) -> io::Result<()> {
     let labels = [0u64, 1, 0, 2, 0, 4, 0, 8];
-    do_open(rt, s, b"line=", 6, 2, 8, 1048576, Form::Scalar, &labels)?;
-    do_record(rt, s, b"line=", 7, Kind::Z, 0, 1)?;
-    do_gate(rt, s, b"line=", 8, Gate::Cnot(0, 1))?;
-    do_look(rt, s, b"line=", 9, Kind::Z, 1)
+    opened(
+        rt,
+        Place::Line(6),
+        open(s, 2, 8, 1048576, Form::Scalar, &labels),
+    )?;
+    recorded(rt, Place::Line(7), record(s, Kind::Z, 0, 1))?;
+    done(rt, Place::Line(8), gate(s, Gate::Cnot(0, 1)))?;
+    seen(rt, Place::Line(9), look(s, Kind::Z, 1))
 }
 
 fn carried(rt: &impl Print, s: &mut [u64]) -> io::Result<()> {
-    do_gate(rt, s, b"line=", 10, Gate::X(1))?;
-    do_gate(rt, s, b"line=", 11, Gate::Cnot(0, 1))?;
-    do_gate(rt, s, b"line=", 12, Gate::X(0))?;
-    do_look(rt, s, b"line=", 13, Kind::Z, 0)
+    done(rt, Place::Line(10), gate(s, Gate::X(1)))?;
+    done(rt, Place::Line(11), gate(s, Gate::Cnot(0, 1)))?;
+    done(rt, Place::Line(12), gate(s, Gate::X(0)))?;
+    seen(rt, Place::Line(13), look(s, Kind::Z, 0))
 }
 
 fn blocked(rt: &impl Print, s: &mut [u64]) -> io::Result<()> {
-    do_record(rt, s, b"line=", 14, Kind::X, 0, 2)?;
-    do_look(rt, s, b"line=", 15, Kind::Z, 0)?;
-    do_kill(rt, s, b"line=", 16, 1)?;
-    do_look(rt, s, b"line=", 17, Kind::Z, 0)?;
-    do_clear(rt, s, b"line=", 18)?;
-    do_look(rt, s, b"line=", 19, Kind::Z, 0)
+    recorded(rt, Place::Line(14), record(s, Kind::X, 0, 2))?;
+    seen(rt, Place::Line(15), look(s, Kind::Z, 0))?;
+    done(rt, Place::Line(16), kill(s, 1))?;
+    seen(rt, Place::Line(17), look(s, Kind::Z, 0))?;
+    done(rt, Place::Line(18), clear(s))?;
+    seen(rt, Place::Line(19), look(s, Kind::Z, 0))
 }
 
 // ---- cases 1 to 4: sizes. A slice for the largest stores is not lent here: 3, the last refusal, says that n and E were accepted.
 
 fn qubits(rt: &impl Print, s: &mut [u64]) -> io::Result<()> {
     let labels = [0u64; 128];
-    do_open(rt, s, b"case=", 1, 23168, 1, 0, Form::Scalar, &labels)?;
-    do_open(rt, s, b"case=", 1, 23169, 1, 0, Form::Scalar, &labels)?;
-    do_open(rt, s, b"case=", 2, 32, 1, 0, Form::Sliced, &labels)?;
-    do_open(rt, s, b"case=", 2, 33, 1, 0, Form::Sliced, &labels)
+    opened(
+        rt,
+        Place::Case(1),
+        open(s, 23168, 1, 0, Form::Scalar, &labels),
+    )?;
+    opened(
+        rt,
+        Place::Case(1),
+        open(s, 23169, 1, 0, Form::Scalar, &labels),
+    )?;
+    opened(rt, Place::Case(2), open(s, 32, 1, 0, Form::Sliced, &labels))?;
+    opened(rt, Place::Case(2), open(s, 33, 1, 0, Form::Sliced, &labels))
 }
 
 fn events(rt: &impl Print, s: &mut [u64]) -> io::Result<()> {
     let labels = [0u64; 4];
-    do_open(rt, s, b"case=", 3, 1, 16777216, 0, Form::Scalar, &labels)?;
-    do_open(rt, s, b"case=", 3, 1, 16777217, 0, Form::Scalar, &labels)?;
-    do_open(rt, s, b"case=", 4, 192, 5592405, 0, Form::Scalar, &labels)?;
-    do_open(rt, s, b"case=", 4, 192, 5592406, 0, Form::Scalar, &labels)
+    opened(
+        rt,
+        Place::Case(3),
+        open(s, 1, 16777216, 0, Form::Scalar, &labels),
+    )?;
+    opened(
+        rt,
+        Place::Case(3),
+        open(s, 1, 16777217, 0, Form::Scalar, &labels),
+    )?;
+    opened(
+        rt,
+        Place::Case(4),
+        open(s, 192, 5592405, 0, Form::Scalar, &labels),
+    )?;
+    opened(
+        rt,
+        Place::Case(4),
+        open(s, 192, 5592406, 0, Form::Scalar, &labels),
+    )
 }
 
 // ---- cases 5 to 8: a rotation about y is recorded on the fresh frame, and its sign is read; after a gate a look for another axis finds it, with the
 // sign of that axis
 
-fn fresh_y(rt: &impl Print, s: &mut [u64], case: u64) -> io::Result<()> {
+fn fresh_y(rt: &impl Print, s: &mut [u64], at: Place) -> io::Result<()> {
     let labels = [0u64; 4];
-    do_open(rt, s, b"case=", case, 1, 4, 1048576, Form::Scalar, &labels)?;
-    do_record(rt, s, b"case=", case, Kind::Y, 0, 5)?;
-    do_read(rt, s, b"case=", case, 0)
+    opened(rt, at, open(s, 1, 4, 1048576, Form::Scalar, &labels))?;
+    recorded(rt, at, record(s, Kind::Y, 0, 5))?;
+    kept(rt, at, read(s, 0))
 }
 
-fn y_after(rt: &impl Print, s: &mut [u64], case: u64, g: Gate, kind: Kind) -> io::Result<()> {
-    fresh_y(rt, s, case)?;
-    do_gate(rt, s, b"case=", case, g)?;
-    do_look(rt, s, b"case=", case, kind, 0)
+fn y_after(rt: &impl Print, s: &mut [u64], at: Place, g: Gate, kind: Kind) -> io::Result<()> {
+    fresh_y(rt, s, at)?;
+    done(rt, at, gate(s, g))?;
+    seen(rt, at, look(s, kind, 0))
 }
 
 // ---- cases 9 and 10: so many rotations about Z0, and a look for Z0
 
-fn turns(s: &mut [u64], many: u64) {
-    let mut i: u64 = 0;
-    while i < many {
-        record(s, Kind::Z, 0, 1);
-        i += 1;
-    }
-}
-
 fn searched(
     rt: &impl Print,
     s: &mut [u64],
-    case: u64,
+    at: Place,
     form: Form,
     steps: u64,
     many: u64,
 ) -> io::Result<()> {
     let labels = [0u64; 4];
-    do_open(rt, s, b"case=", case, 1, 64, steps, form, &labels)?;
-    turns(s, many);
-    field(rt, b"recorded=", many)?;
-    do_look(rt, s, b" case=", case, Kind::Z, 0)
+    opened(rt, at, open(s, 1, 64, steps, form, &labels))?;
+    for _ in 0..many {
+        let _ = record(s, Kind::Z, 0, 1);
+    }
+    print!(rt; "recorded={many} ")?;
+    seen(rt, at, look(s, Kind::Z, 0))
 }
 
 // ---- case 11: all of the seven blockers, or none
 
 fn toffoli(rt: &impl Print, s: &mut [u64], events: usize) -> io::Result<()> {
     let labels = [0u64; 12];
-    do_open(
-        rt,
-        s,
-        b"case=",
-        11,
-        3,
-        events,
-        1048576,
-        Form::Scalar,
-        &labels,
-    )?;
-    do_measure(rt, s, b"case=", 11, 0)?;
-    do_ccx(rt, s, b"case=", 11)?;
-    do_measure(rt, s, b"case=", 11, 0)
+    let at = Place::Case(11);
+    opened(rt, at, open(s, 3, events, 1048576, Form::Scalar, &labels))?;
+    recorded(rt, at, measure(s, 0))?;
+    recorded(rt, at, ccx(s, 0, 1, 2))?;
+    recorded(rt, at, measure(s, 0))
 }
 
 // ---- case 12: list 0 has Z0 and three of Z0Z1. A look for Z0 pays for the three, dead ones too, until two dead ones are dropped.
 
 fn first(rt: &impl Print, s: &mut [u64]) -> io::Result<()> {
     let labels = [0u64, 1, 0, 2, 0, 4, 0, 8];
-    do_open(rt, s, b"case=", 12, 2, 8, 1048576, Form::Scalar, &labels)?;
-    do_record(rt, s, b"case=", 12, Kind::Z, 0, 1)?;
-    do_gate(rt, s, b"case=", 12, Gate::Cnot(0, 1))
+    let at = Place::Case(12);
+    opened(rt, at, open(s, 2, 8, 1048576, Form::Scalar, &labels))?;
+    recorded(rt, at, record(s, Kind::Z, 0, 1))?;
+    done(rt, at, gate(s, Gate::Cnot(0, 1)))
 }
 
 fn three(rt: &impl Print, s: &mut [u64]) -> io::Result<()> {
-    do_record(rt, s, b"case=", 12, Kind::Z, 1, 2)?;
-    do_record(rt, s, b"case=", 12, Kind::Z, 1, 3)?;
-    do_record(rt, s, b"case=", 12, Kind::Z, 1, 4)?;
-    do_gate(rt, s, b"case=", 12, Gate::Cnot(0, 1))
+    let at = Place::Case(12);
+    for tag in 2..5 {
+        recorded(rt, at, record(s, Kind::Z, 1, tag))?;
+    }
+    done(rt, at, gate(s, Gate::Cnot(0, 1)))
 }
 
 fn dropped(rt: &impl Print, s: &mut [u64]) -> io::Result<()> {
-    do_look(rt, s, b"case=", 12, Kind::Z, 0)?;
-    do_kill(rt, s, b"case=", 12, 1)?;
-    do_look(rt, s, b"case=", 12, Kind::Z, 0)?;
-    do_kill(rt, s, b"case=", 12, 2)?;
-    do_look(rt, s, b"case=", 12, Kind::Z, 0)
+    let at = Place::Case(12);
+    seen(rt, at, look(s, Kind::Z, 0))?;
+    done(rt, at, kill(s, 1))?;
+    seen(rt, at, look(s, Kind::Z, 0))?;
+    done(rt, at, kill(s, 2))?;
+    seen(rt, at, look(s, Kind::Z, 0))
 }
 
 fn main(rt: HostRuntime) -> io::Result<()> {
@@ -283,15 +227,15 @@ fn main(rt: HostRuntime) -> io::Result<()> {
     let mut least = [7u64; 2521];
     qubits(&rt, &mut least)?;
     events(&rt, &mut least)?;
-    fresh_y(&rt, &mut s, 5)?;
-    y_after(&rt, &mut s, 6, Gate::S(0), Kind::X)?;
-    y_after(&rt, &mut s, 7, Gate::Sdg(0), Kind::X)?;
-    y_after(&rt, &mut s, 8, Gate::Sx(0), Kind::Z)?;
-    searched(&rt, &mut s, 9, Form::Scalar, 1, 1)?;
-    searched(&rt, &mut s, 9, Form::Scalar, 0, 1)?;
-    searched(&rt, &mut s, 9, Form::Sliced, 1, 1)?;
-    searched(&rt, &mut s, 10, Form::Sliced, 1048576, 64)?;
-    searched(&rt, &mut s, 10, Form::Sliced, 1048576, 63)?;
+    fresh_y(&rt, &mut s, Place::Case(5))?;
+    y_after(&rt, &mut s, Place::Case(6), Gate::S(0), Kind::X)?;
+    y_after(&rt, &mut s, Place::Case(7), Gate::Sdg(0), Kind::X)?;
+    y_after(&rt, &mut s, Place::Case(8), Gate::Sx(0), Kind::Z)?;
+    searched(&rt, &mut s, Place::Case(9), Form::Scalar, 1, 1)?;
+    searched(&rt, &mut s, Place::Case(9), Form::Scalar, 0, 1)?;
+    searched(&rt, &mut s, Place::Case(9), Form::Sliced, 1, 1)?;
+    searched(&rt, &mut s, Place::Case(10), Form::Sliced, 1048576, 64)?;
+    searched(&rt, &mut s, Place::Case(10), Form::Sliced, 1048576, 63)?;
     toffoli(&rt, &mut s, 7)?;
     toffoli(&rt, &mut s, 8)?;
     first(&rt, &mut s)?;

@@ -1,79 +1,42 @@
 -- `gating::calls::gate` meets its contract: each return by its own law of how a call ends. Assumes nothing.
-use mathlib.Core.Bool.{true, false}
-use mathlib.Core.Path.{◌≡◌, refl, sym, ◌∙◌}
-use mathlib.Core.List.{List}
-use Prim.Native.Nat.{ℕ, ◌+◌, ◌-◌, ◌*◌}
-use Rattle.model.specs.Calls.{call_gate, gate_qubits}
-use Rattle.frame.specs.Places.{applied}
-use Rattle.store.specs.Stores.{frame_size}
-use Rattle.store.specs.Promises.{told, qubit_number}
-use Rattle.store.specs.Checks.{Framing}
-use Rattle.store.proofs.SizeLaws.{told_short, told_bad, told_Ready}
-use Rattle.store.proofs.MeetLaws.{short_Meets, Damaged-Meets}
+use Rattle.std.proofs.lemmas.Result.{err_from_is_err_and}
+use Rattle.store.proofs.MeetLaws.{unsound_Meets}
+use Rattle.model.specs.Calls.{call_gate}
 use Rattle.gating.specs.Gates.{gate_of}
+use Rattle.store.proofs.SizeLaws.{Framing-planes}
+use Rattle.gating.proofs.CallLaws.{frames_long, gate_refused, gate_nine, gate_done}
 use Rattle.gating.proofs.GatingLaws.{qubits_fit}
-use Rattle.gating.proofs.CallLaws.{gate_number, frames_long, framed_refused, framed_nine, gate_done, gate_small}
+use mathlib.Core.Path.{sym}
+use mathlib.Core.Bool.{true}
 use native.Mathlib.Omega.{arith}
 use Rattle.gating.proofs.calls.gate.Goals as goal
-use Rattle.gating.proofs.calls.gate.Goals.{After-refusal-k, In-Ready, Start}
 
--- the call's own place, and the words that it was lent
-abbrev start : (c : In-Ready) → Start
-start c = (goal.at.In-Ready c).Start
+pub returns-in_err-n : goal.returns-in_err-n
+returns-in_err-n c =
+    let p = err_from_is_err_and c.from_residual.result c.from_residual.ensures.1 in
+    rw (p.1, p.2) (unsound_Meets (call_gate (gate_of c.args.g)) c.args.s.now _ c.in_err-n.ensures)
 
-abbrev words : (c : In-Ready) → List ℕ
-words c = (start c).args.s.now
+pub returns-in_err-check_gate : goal.returns-in_err-check_gate
+returns-in_err-check_gate c =
+    let p = err_from_is_err_and c.from_residual-in_err-check_gate.result c.from_residual-in_err-check_gate.ensures.1 in
+    let f = c.in_ok-n.ensures in
+    rw (p.1, p.2) (gate_refused c.in_ok-n.n c.in_ok-n.l c.args.s.now f (gate_of c.args.g) _ c.in_err-check_gate.ensures)
 
--- what `frame_sizes` told
-framing : (c : After-refusal-k) → Framing c.in-Ready.n c.in-Ready.l (words (goal.at.After-refusal-k c).In-Ready)
-framing c =
-    let m = (goal.at.After-refusal-k c).In-Ready in
-    told_Ready (words m) c.frame_sizes.result c.in-Ready.n c.in-Ready.l c.in-Ready.is c.frame_sizes.ensures
-
--- the words that are lent on
-size : (n l : ℕ) → 14 + (2 * n * (2 * l + 1) + 2 * (2 * n)) - 14 ≡ frame_size n l
-size n l = omega arith
-
-pub returns-then-k-ne0 : goal.returns-then-k-ne0
-unfolding told
-returns-then-k-ne0 c =
-    let r = (goal.at.returns-then-k-ne0 c).After-refusal-k in
-    let s = words (goal.at.returns-then-k-ne0 c).In-Ready in
-    let g = (start (goal.at.returns-then-k-ne0 c).In-Ready).args.g in
-    framed_refused (call_gate (gate_of g)) c.in-Ready.n c.in-Ready.l s (framing r) (qubit_number c.in-Ready.n (gate_qubits (gate_of g))) (gate_number c.in-Ready.n c.in-Ready.l s (gate_of g) (framing r))
-    (gate_small c.in-Ready.n (gate_of g)) c.refusal-k.result c.refusal-k.ensures c.if-k-ne0.true
+pub history_place-end-requires : goal.history_place-end-requires
+history_place-end-requires c = let f = c.in_ok-n.ensures in (f.few, Framing-planes c.in_ok-n.n c.in_ok-n.l c.args.s.now f)
 
 pub act-requires : goal.act-requires
 act-requires c =
-    let r = (goal.at.act-requires c).After-refusal-k in
-    let s = words (goal.at.act-requires c).In-Ready in
-    let g = (start (goal.at.act-requires c).In-Ready).args.g in
-    (frames_long c.in-Ready.n c.in-Ready.l s (framing r) _ (size c.in-Ready.n c.in-Ready.l), qubits_fit c.in-Ready.n (gate_of g) (sym c.refusal-k.ensures ∙ c.if-k-ne0.false))
+    let f = c.in_ok-n.ensures in
+    (frames_long c.in_ok-n.n c.in_ok-n.l c.args.s.now f _ (omega arith), qubits_fit c.in_ok-n.n (gate_of c.args.g) (sym c.in_ok-check_gate.ensures))
 
-pub returns-in-Ok : goal.returns-in-Ok
-unfolding told
-returns-in-Ok c =
-    let r = (goal.at.returns-in-Ok c).After-refusal-k in
-    let s = words (goal.at.returns-in-Ok c).In-Ready in
-    let g = (start (goal.at.returns-in-Ok c).In-Ready).args.g in
-    gate_done (gate_of g) c.in-Ready.n c.in-Ready.l s (framing r) (sym c.refusal-k.ensures ∙ c.if-k-ne0.false) _ (size c.in-Ready.n c.in-Ready.l) c.act.new.f true
-    c.s-1.given.0 c.in-Ok.ensures
+pub returns-in_err-act : goal.returns-in_err-act
+returns-in_err-act c =
+    let p = err_from_is_err_and c.from_residual-in_err-act.result c.from_residual-in_err-act.ensures.1 in
+    let f = c.in_ok-n.ensures in
+    rw (p.1, p.2) (gate_nine c.in_ok-n.n c.in_ok-n.l c.args.s.now f (gate_of c.args.g) _ (omega arith) c.act.new.f c.act.auto.f c.in_err-act.ensures)
 
-pub returns-in-Short : goal.returns-in-Short
-unfolding told
-returns-in-Short c =
-    short_Meets (call_gate (gate_of c.args.g)) c.args.s.now (told_short c.args.s.now c.frame_sizes.result c.in-Short.is c.frame_sizes.ensures)
-
-pub returns-in-Bad : goal.returns-in-Bad
-unfolding told
-returns-in-Bad c =
-    Damaged-Meets (call_gate (gate_of c.args.g)) c.args.s.now (told_bad c.args.s.now c.frame_sizes.result c.in-Bad.is c.frame_sizes.ensures)
-
-pub returns-in-Err : goal.returns-in-Err
-unfolding told
-returns-in-Err c =
-    let r = (goal.at.returns-in-Err c).After-refusal-k in
-    let s = words (goal.at.returns-in-Err c).In-Ready in
-    let g = (start (goal.at.returns-in-Err c).In-Ready).args.g in
-    framed_nine (call_gate (gate_of g)) c.in-Ready.n c.in-Ready.l s (framing r) (qubit_number c.in-Ready.n (gate_qubits (gate_of g))) (gate_number c.in-Ready.n c.in-Ready.l s (gate_of g) (framing r))
-    (applied (gate_of g)) _ (size c.in-Ready.n c.in-Ready.l) c.act.new.f false c.s-1.given.0 c.in-Err.ensures refl
+pub returns : goal.returns
+returns c =
+    let f = c.in_ok-n.ensures in
+    gate_done (gate_of c.args.g) c.in_ok-n.n c.in_ok-n.l c.args.s.now f (sym c.in_ok-check_gate.ensures) _ (omega arith) c.act.new.f true c.act.auto.f c.in_ok-act.ensures

@@ -1,13 +1,13 @@
 -- `host::calls::tillbonnet_open` meets its contract: by the form. Assumes nothing.
 use Rattle.host.specs.Named.{form_named}
-use Rattle.store.specs.Promises.{told}
+use Rattle.store.specs.Promises.{told_open}
 use Rattle.host.proofs.Naming.{meant, unnamed}
 use mathlib.Core.Path.{refl, sym, ap, ◌∙◌}
 use Rattle.host.proofs.calls.tillbonnet_open.Goals as goal
 
 pub returns-in-Known : goal.returns-in-Known
 unfolding form_named
-returns-in-Known c = meant _ _ _ _ (sym (ap form_named c.in-Known.is) ∙ c.form_named.ensures) (record { reply = told c.«open».result; opens = c.«open».ensures; number_is = c.number_of.ensures })
+returns-in-Known c = meant _ _ _ _ (sym (ap form_named c.in-Known.is) ∙ c.form_named.ensures) (record { reply = told_open c.«open».result; opens = c.«open».ensures; number_is = c.open_number_of.ensures })
 
 pub returns-in-Unknown : goal.returns-in-Unknown
 unfolding form_named

@@ -1,13 +1,13 @@
 -- `host::calls::tillbonnet_turn` meets its contract: by the kind. Assumes nothing.
 use Rattle.host.specs.Named.{kind_named}
-use Rattle.store.specs.Promises.{told}
+use Rattle.store.specs.Promises.{told_done}
 use Rattle.host.proofs.Naming.{meant, unnamed}
 use mathlib.Core.Path.{refl, sym, ap, ◌∙◌}
 use Rattle.host.proofs.calls.tillbonnet_turn.Goals as goal
 
 pub returns-in-Known : goal.returns-in-Known
 unfolding kind_named
-returns-in-Known c = meant _ _ _ _ (sym (ap kind_named c.in-Known.is) ∙ c.kind_named.ensures) (record { reply = told c.turn.result; meets = c.turn.ensures; number_is = c.number_of.ensures })
+returns-in-Known c = meant _ _ _ _ (sym (ap kind_named c.in-Known.is) ∙ c.kind_named.ensures) (record { reply = told_done c.turn.result; meets = c.turn.ensures; number_is = c.number_of.ensures })
 
 pub returns-in-Unknown : goal.returns-in-Unknown
 unfolding kind_named

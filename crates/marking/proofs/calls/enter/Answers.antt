@@ -1,55 +1,37 @@
 -- `marking::calls::enter` meets its contract: one law for each way in which it ends. Assumes nothing.
-use mathlib.Core.Path.{◌≡◌, sym, ◌∙◌}
-use Prim.Native.Nat.{◌+◌, ◌≤◌, ◌<◌}
-use lib.ListN.{length, get_or}
-use Rattle.store.specs.Promises.{told}
-use Rattle.marking.specs.Marks.{records_of}
+use mathlib.Core.Path.{refl}
+use mathlib.Core.Bool.{true, false}
+use Rattle.std.proofs.lemmas.Result.{err_from_is_err_and}
 use Rattle.marking.proofs.EnrollLaws.{few_records, word_there, qubits_refused, too_many, full_refused, all_recorded, bad_recorded}
 use native.Mathlib.Omega.{arith}
 use Rattle.marking.proofs.calls.enter.Goals as goal
 
-pub returns-then-k-ne0 : goal.returns-then-k-ne0
-unfolding told
-returns-then-k-ne0 c =
-    qubits_refused c.args.z c.args.s.now c.args.mark c.requires c.refusal-k.result c.refusal-k.ensures c.if-k-ne0.true
+pub returns-in_err-check_mark : goal.returns-in_err-check_mark
+returns-in_err-check_mark c =
+    let p = err_from_is_err_and c.from_residual.result c.from_residual.ensures.1 in
+    rw (p.1, p.2) (qubits_refused c.args.z.now c.args.s.now c.args.mark c.requires _ c.in_err-check_mark.ensures)
 
-pub bounds-s-at : goal.bounds-s-at
-bounds-s-at c =
-    word_there c.args.z c.args.s.now c.requires
+pub bounds-s-z : goal.bounds-s-z
+bounds-s-z c = word_there c.args.z.now c.args.s.now c.requires
 
 pub returns-then-z-events : goal.returns-then-z-events
-unfolding told
-returns-then-z-events c =
-    too_many c.args.z c.args.s.now c.args.mark c.requires c.if-z-events.true
+returns-then-z-events c = too_many c.args.z.now c.args.s.now c.args.mark c.requires c.if-z-events.true
 
 pub overflow_add-events : goal.overflow_add-events
-overflow_add-events c =
-    omega (arith, c.if-z-events.false, c.requires.few, few_records c.args.mark, c.records.ensures)
+overflow_add-events c = omega (arith, c.if-z-events.false, c.requires.few, few_records c.args.mark)
 
 pub returns-then-z-events-2 : goal.returns-then-z-events-2
-unfolding told
 returns-then-z-events-2 c =
     let a = c.args in
-    let k = c.refusal-k in
-    let full : a.z.cap < get_or a.s.now a.z.at 0 + records_of a.mark = omega (arith, c.if-z-events-2.true, c.records.ensures) in
-    full_refused a.z a.s.now a.mark c.requires (sym c.if-k-ne0.false ∙ k.ensures) full
+    full_refused a.z.now a.s.now a.mark c.requires c.in_ok-check_mark.ensures (omega arith)
 
-pub returns-then-either_row : goal.returns-then-either_row
-unfolding told
-returns-then-either_row c =
+pub returns-in_err-either_row : goal.returns-in_err-either_row
+returns-in_err-either_row c =
     let a = c.args in
-    let k = c.refusal-k in
-    let x = c.either_row in
-    let room : get_or a.s.now a.z.at 0 + records_of a.mark ≤ a.z.cap = omega (arith, c.if-z-events-2.false, c.records.ensures) in
-    let long : length x.new.s ≡ length a.s.now = omega arith in
-    all_recorded a.z a.s.now a.mark c.requires (sym c.if-k-ne0.false ∙ k.ensures) x.new.s x.result long room x.ensures c.if-either_row.true
+    let p = err_from_is_err_and c.from_residual-in_err-either_row.result c.from_residual-in_err-either_row.ensures.1 in
+    rw (p.1, p.2) (bad_recorded a.z.now a.s.now a.mark c.requires c.in_ok-check_mark.ensures c.either_row.new.s false c.either_row.auto.s (omega arith) c.in_err-either_row.ensures refl)
 
 pub returns : goal.returns
-unfolding told
 returns c =
     let a = c.args in
-    let k = c.refusal-k in
-    let x = c.either_row in
-    let room : get_or a.s.now a.z.at 0 + records_of a.mark ≤ a.z.cap = omega (arith, c.if-z-events-2.false, c.records.ensures) in
-    let long : length x.new.s ≡ length a.s.now = omega arith in
-    bad_recorded a.z a.s.now a.mark c.requires (sym c.if-k-ne0.false ∙ k.ensures) x.new.s x.result long room x.ensures c.if-either_row.false
+    all_recorded a.z.now a.s.now a.mark c.requires c.in_ok-check_mark.ensures c.either_row.new.s true c.either_row.auto.s (omega arith) c.in_ok-either_row.ensures refl

@@ -1,24 +1,24 @@
 -- `marking::events::put` meets its contract: one record on the history's part. Assumes nothing.
-use mathlib.Core.Path.{sym, subst}
-use mathlib.Core.Bool.{Bool}
-use Prim.Native.Nat.{◌-◌}
-use Rattle.store.proofs.Splice.{splice}
-use Rattle.marking.specs.Marks.{Puts}
+use Rattle.std.proofs.Common.{Ok, Err}
+use Rattle.std.proofs.lemmas.Result.{err_from_is_err_and}
 use Rattle.pauli.proofs.Words.{rest_length}
 use Rattle.marking.proofs.PutMarks.{put_done}
 use Rattle.store.proofs.LentLaws.{lent-Sized}
-use Rattle.store.specs.Checks.{sizes}
 use native.Mathlib.Omega.{arith}
 use Rattle.marking.proofs.events.put.Goals as goal
 
 pub record-requires : goal.record-requires
 record-requires c =
     let a = c.args in
-    (lent-Sized (sizes a.n a.l a.form a.cap a.allowance a.at a.end) a.s.now c.requires.0, omega (arith, rest_length a.row.now 1, c.requires.1), c.requires.2)
+    (lent-Sized a.z.now a.s.now c.requires.0, omega (arith, rest_length a.row.now 1, c.requires.1), c.requires.2)
+
+pub returns-in_err-record-clause-done : goal.returns-in_err-record-clause-done
+returns-in_err-record-clause-done c =
+    let a = c.args in
+    let p = err_from_is_err_and c.from_residual.result c.from_residual.ensures.1 in
+    rw p.1 (put_done a.z.now a.s.now c.«record».new.h a.row.now a.body (Err _) c.requires.0 c.in_err-record.ensures.done)
 
 pub returns-clause-done : goal.returns-clause-done
 returns-clause-done c =
     let a = c.args in
-    let z = sizes a.n a.l a.form a.cap a.allowance a.at a.end in
-    let k = c.«record» in
-    subst (λ (b : Bool). Puts a.row.now a.body a.s.now b (splice a.at (a.end - a.at) a.s.now k.new.h)) (sym c.is_ok.ensures.value) (put_done z a.s.now k.new.h a.row.now a.body k.result c.requires.0 k.ensures.done)
+    put_done a.z.now a.s.now c.«record».new.h a.row.now a.body (Ok _) c.requires.0 c.in_ok-record.ensures.done

@@ -4,8 +4,7 @@ use Rattle.std.proofs.Common.{Ok}
 use native.Mathlib.Omega.{arith}
 use Rattle.seeking.proofs.SeekLaws.{read_Says, read_nothing, read_bad}
 use Rattle.store.proofs.LentLaws.{planes_small, lent_counts}
-use Rattle.store.proofs.MeetLaws.{short_Answers, Damaged-Answers}
-use Rattle.store.proofs.SizeLaws.{tells_short, tells_bad}
+use Rattle.store.proofs.MeetLaws.{unsound_Answers}
 use Rattle.store.specs.Promises.{told_read}
 use Rattle.model.specs.Calls.{call_read}
 use Rattle.seeking.proofs.events.read.Goals as goal
@@ -13,13 +12,9 @@ use Rattle.seeking.proofs.events.read.Goals as goal
 pub read-requires : goal.read-requires
 read-requires c = (lent_counts c.sizes_of-z.result c.args.s.now c.sizes_of-z.ensures, c.sizes_of-z.ensures.few, planes_small c.sizes_of-z.result c.args.s.now c.sizes_of-z.ensures)
 
-pub returns-in-Short : goal.returns-in-Short
+pub returns-in-Err : goal.returns-in-Err
 unfolding told_read
-returns-in-Short c = short_Answers (call_read c.args.id) c.args.s.now (tells_short c.args.s.now c.check.result c.in-Short.is c.check.ensures)
-
-pub returns-in-Bad : goal.returns-in-Bad
-unfolding told_read
-returns-in-Bad c = Damaged-Answers (call_read c.args.id) c.args.s.now (tells_bad c.args.s.now c.check.result c.in-Bad.is c.check.ensures)
+returns-in-Err c = rw c.code.ensures (unsound_Answers (call_read c.args.id) c.args.s.now c.in-Err.e c.in-Err.ensures)
 
 pub returns-in-Ok-Some : goal.returns-in-Ok-Some
 unfolding told_read
@@ -29,6 +24,6 @@ pub returns-in-Ok-None : goal.returns-in-Ok-None
 unfolding told_read
 returns-in-Ok-None c = read_nothing c.sizes_of-z.result c.args.s.now c.sizes_of-z.ensures c.args.id c.read.result c.read.ensures.nothing c.read.ensures.says (c.in-Ok-None.is ∙ ap Ok c.in-Ok-None.field-0-is)
 
-pub returns-in-Err : goal.returns-in-Err
+pub returns-in-Err-read : goal.returns-in-Err-read
 unfolding told_read
-returns-in-Err c = read_bad c.sizes_of-z.result c.args.s.now c.sizes_of-z.ensures c.args.id c.read.result c.read.ensures.nothing c.read.ensures.says _ c.in-Err.is
+returns-in-Err-read c = read_bad c.sizes_of-z.result c.args.s.now c.sizes_of-z.ensures c.args.id c.read.result c.read.ensures.nothing c.read.ensures.says _ c.in-Err-read.is

@@ -1,7 +1,6 @@
 -- `seeking::looks::look` meets its contract: by what the header told, and by the look. Assumes nothing.
 use Rattle.seeking.proofs.SeekLaws.{look_out, look-Says}
-use Rattle.store.proofs.MeetLaws.{short_Answers, Damaged-Answers}
-use Rattle.store.proofs.SizeLaws.{tells_short, tells_bad}
+use Rattle.store.proofs.MeetLaws.{unsound_Answers}
 use Rattle.store.specs.Promises.{told_look}
 use Rattle.frame.specs.Axes.{kind_of}
 use Rattle.model.specs.Calls.{call_look}
@@ -12,13 +11,9 @@ pub returns-then-z-q : goal.returns-then-z-q
 unfolding told_look
 returns-then-z-q c = look_out c.sizes_of-z.result c.args.s.now c.sizes_of-z.ensures (kind_of c.args.kind) c.args.q (omega (arith, c.if-z-q.true))
 
-pub returns-in-Short : goal.returns-in-Short
+pub returns-in-Err : goal.returns-in-Err
 unfolding told_look
-returns-in-Short c = short_Answers (call_look (kind_of c.args.kind) c.args.q) c.args.s.now (tells_short c.args.s.now c.check.result c.in-Short.is c.check.ensures)
-
-pub returns-in-Bad : goal.returns-in-Bad
-unfolding told_look
-returns-in-Bad c = Damaged-Answers (call_look (kind_of c.args.kind) c.args.q) c.args.s.now (tells_bad c.args.s.now c.check.result c.in-Bad.is c.check.ensures)
+returns-in-Err c = rw c.code.ensures (unsound_Answers (call_look (kind_of c.args.kind) c.args.q) c.args.s.now c.in-Err.e c.in-Err.ensures)
 
 pub returns-else-z-q : goal.returns-else-z-q
 unfolding told_look

@@ -1,11 +1,13 @@
+use mathlib.Core.Path.{ap, ◌∙◌}
+use Rattle.std.proofs.Common.{Ok}
 use Rattle.session.proofs.Telling.{count_first, count_Done, count_refused}
 use Rattle.session.proofs.desk.count.Goals as goal
 
-pub returns-in-First : goal.returns-in-First
-returns-in-First c = count_first _ _ _ _ _ _ c.in-First.is c.records-k.ensures
+pub returns-in-Ok-Some : goal.returns-in-Ok-Some
+returns-in-Ok-Some c = count_first _ _ _ _ _ _ (c.in-Ok-Some.is ∙ ap Ok (rw c.in-Ok-Some.is at c.in-Ok-Some.field-0-is)) c.records-k.ensures
 
-pub returns-in-Done : goal.returns-in-Done
-returns-in-Done c = count_Done _ _ _ _ _ _ c.in-Done.is c.kills.ensures c.less-left.ensures
+pub returns-in-Ok-None : goal.returns-in-Ok-None
+returns-in-Ok-None c = count_Done _ _ _ _ _ _ (c.in-Ok-None.is ∙ ap Ok (rw c.in-Ok-None.is at c.in-Ok-None.field-0-is)) c.kills.ensures c.less-left.ensures
 
-pub returns-in-Refused : goal.returns-in-Refused
-returns-in-Refused c = count_refused _ _ _ _ _ c.in-Refused.is
+pub returns-in-Err : goal.returns-in-Err
+returns-in-Err c = count_refused _ _ _ _ _ c.in-Err.is

@@ -1,9 +1,11 @@
 use Rattle.session.proofs.Telling.{refused_opening, done_opening}
-use borrow.Author.Rules.{rules}
+use mathlib.Core.Path.{ap, ◌∙◌, sym}
+use Rattle.model.specs.Calls.{refused}
+use Rattle.store.specs.Promises.{told_open}
 use Rattle.session.proofs.desk.try_open.Goals as goal
 
-pub returns-in-Refused : goal.returns-in-Refused
-returns-in-Refused c = refused_opening _ _ _ _ _ _ _ _ _ c.requires.3 c.«open».ensures _ _ _ c.in-Refused.is c.requires.4 c.write_not_opened.ensures
+pub returns-in-Err : goal.returns-in-Err
+returns-in-Err c = refused_opening _ _ _ _ _ _ _ _ _ c.requires.3 c.«open».ensures _ _ _ (ap told_open c.in-Err.is ∙ ap refused (sym c.code.ensures)) c.requires.4 c.write_not_opened.ensures
 
-pub returns-in_default : goal.returns-in_default
-returns-in_default c = done_opening _ _ _ _ _ _ _ _ _ c.requires.3 c.«open».ensures (search rules) c.requires.1
+pub returns-in-Ok : goal.returns-in-Ok
+returns-in-Ok c = done_opening _ _ _ _ _ _ _ _ _ c.requires.3 c.«open».ensures (ap told_open c.in-Ok.is) c.requires.1

@@ -8,6 +8,6 @@ pub returns-then-word-eq0 : goal.returns-then-word-eq0
 unfolding form_at
 returns-then-word-eq0 c = rw (eq-eqb c.args.word 0 c.if-word-eq0.true) refl
 
-pub returns : goal.returns
+pub returns-else-word-eq0 : goal.returns-else-word-eq0
 unfolding form_at
-returns c = rw (ne_eqb c.args.word 0 c.if-word-eq0.false) refl
+returns-else-word-eq0 c = rw (ne_eqb c.args.word 0 c.if-word-eq0.false) refl

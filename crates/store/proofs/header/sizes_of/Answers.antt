@@ -9,8 +9,11 @@ use Rattle.store.proofs.header.sizes_of.Goals as goal
 
 pub overflow_add-end : goal.overflow_add-end
 unfolding words
-overflow_add-end c = omega (arith, frame_fits (get_or c.args.s.now 1 0) (read_few c.args.s.now c.requires).0, (read_few c.args.s.now c.requires).0, c.history_room.ensures, room_small (form_of c.form_at-form.result) (get_or c.args.s.now 1 0) (get_or c.args.s.now 3 0) ((get_or c.args.s.now 1 0 + 63) / 64) (read_few c.args.s.now c.requires).0 (read_few c.args.s.now c.requires).1 (few_planes (get_or c.args.s.now 1 0) (read_few c.args.s.now c.requires).0))
+overflow_add-end c =
+    let few = read_few c.args.s.now c.requires in
+    let n = get_or c.args.s.now 1 0 in
+    omega (arith, frame_fits n few.0, few.0, room_small (form_of c.form_at-form.result) n (get_or c.args.s.now 3 0) ((n + 63) / 64) few.0 few.1 (few_planes n few.0))
 
 pub returns : goal.returns
 unfolding words
-returns c = Fit-read c.args.s.now _ _ c.requires c.form_at-form.ensures c.history_room.ensures
+returns c = rw c.history_place-at.ensures (Fit-read c.args.s.now _ _ c.requires c.form_at-form.ensures c.history_room.ensures)

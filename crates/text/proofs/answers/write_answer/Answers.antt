@@ -1,16 +1,14 @@
 -- `answers::write_answer` meets its contract, by the cases of the answer. Assumes nothing.
-use Rattle.store.specs.Promises.{told}
 use Rattle.text.specs.Spoken.{spoken}
 use Rattle.text.proofs.answers.write_answer.Goals as goal
 
-pub returns-in-Done : goal.returns-in-Done
-unfolding spoken told
-returns-in-Done c = rw c.in-Done.is c.write_by.ensures
+pub returns-in-Ok-None : goal.returns-in-Ok-None
+unfolding spoken
+returns-in-Ok-None c = let e = rw c.in-Ok-None.is at c.in-Ok-None.field-0-is in rw (c.in-Ok-None.is, e) c.write_by.ensures
 
-pub returns-in-First : goal.returns-in-First
-unfolding spoken told
-returns-in-First c = rw c.in-First.is c.write_by-in-First.ensures
+pub returns-in-Ok-Some : goal.returns-in-Ok-Some
+unfolding spoken
+returns-in-Ok-Some c = let e = rw c.in-Ok-Some.is at c.in-Ok-Some.field-0-is in rw (c.in-Ok-Some.is, e) c.write_by-in-Ok-Some.ensures
 
-pub returns-in-Refused : goal.returns-in-Refused
-unfolding told
-returns-in-Refused c = rw c.in-Refused.is c.write_refusal.ensures
+pub returns-in-Err : goal.returns-in-Err
+returns-in-Err c = rw (c.in-Err.is, ← c.code.ensures) c.write_refusal.ensures
