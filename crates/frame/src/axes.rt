@@ -1,6 +1,6 @@
 // The axis of a rotation, read off a frame's words: the row of a qubit lent in place, its sign, the product of both rows for the axis
 // y, and the label of each kind of axis.
-ghost use Rattle.std.specs.Prelude.{◌≡◌, ℕ, ◌+◌, ◌*◌, ◌%◌, ◌≤◌, ◌<◌, length, get_or, None, IfSome, IsOk};
+ghost use Rattle.std.specs.Prelude.{◌≡◌, ℕ, ◌+◌, ◌*◌, ◌%◌, ◌≤◌, ◌<◌, length, slice_index, None, IfSome, IsOk};
 ghost use Rattle.std.specs.Int.Bits.{bit_and};
 ghost use Rattle.model.specs.Pauli.{Pauli, count, sign};
 ghost use Rattle.model.specs.Frame.{Rows, axis, kind_y, paulis};
@@ -50,12 +50,11 @@ pub fn row_sign(row: &[u64]) -> Option<i8>
     requires { length row.now % 2 ≡ 1 }
     ensures sign { (l : ℕ) (p : Pauli) → length row.now ≡ 2 * l + 1 → IsRow l row.now 0 p → result ≡ answer (sign p) }
     ensures one { IfSome result IsSign }
-    ensures bad { 4 ≤ get_or row.now 0 0 → result ≡ None }
+    ensures bad { 4 ≤ slice_index row.now 0 → result ≡ None }
 {
-    let phase = row[0];
-    if phase >= 4 {
+    let Ok(phase) = phase_at(row, 0) else {
         return None;
-    }
+    };
     pauli::rows::sign(&row[1..], phase)
 }
 

@@ -9,7 +9,7 @@ pub fn lowest(w: u64) -> u32
     requires { 0 < w }
     ensures { Lowest w result }
 {
-    u64::trailing_zeros(w)
+    w.trailing_zeros()
 }
 
 // w without its lowest set digit.
