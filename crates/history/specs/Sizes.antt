@@ -10,9 +10,10 @@ use Rattle.support.specs.declared.families.ScalarLists.{ScalarLists}
 use Rattle.support.specs.declared.families.SlicedLists.{SlicedLists}
 use Rattle.lists.specs.Scans as scans
 use Rattle.lists.specs.Scans.{Axed}
+use Rattle.history.specs.declared.layout.Layout.{Layout}
 use Rattle.history.specs.declared.forms.Form.{Form}
 use Rattle.history.specs.declared.forms.Form.TheVariants.{Scalar, Sliced}
-use Rattle.history.specs.Words.{alive_place, axis_place, sig_place, count_place, history_room, Alive, Given, ListsIn, OfLists}
+use Rattle.history.specs.Words.{alive_place, axis_place, sig_place, count_place, history_room, Alive, Given, ListsIn, OfLists, Holds, Becomes}
 
 -- the code's forms are `model`'s
 unfoldable pub form_of : Form → model.Form
@@ -91,3 +92,20 @@ pub record Scanned (cap l : ℕ) (m : State) (events : ℕ) (h : List ℕ) : Typ
   pub room : length m.events ≤ cap
   pub signed : scans.Signed l m.events h (sig_place cap)
   pub axed : Axed l m.events h (axis_place cap)
+
+-- ---- the same of a layout
+
+abbrev pub Fits : Layout → List ℕ → Type 0
+Fits z h = Sized (form_of z.form) z.n z.cap z.l h
+
+abbrev pub Held : Layout → State → List ℕ → Type 0
+Held z m h = Holds (form_of z.form) z.n z.cap z.l m h
+
+abbrev pub HeldTo : Layout → State → List ℕ → List ℕ → Type 0
+HeldTo z m h g = Becomes (form_of z.form) z.n z.cap z.l m h g
+
+abbrev pub HoldsLists : Layout → State → List ℕ → Type 0
+HoldsLists z m h = ListsHeld (form_of z.form) z.n z.cap z.l m h
+
+abbrev pub ListsBecome : Layout → State → List ℕ → List ℕ → Type 0
+ListsBecome z m h g = ListsTo (form_of z.form) z.n z.cap z.l m h g

@@ -6,6 +6,7 @@ ghost use Rattle.model.specs.Calls.{reading, not_readable};
 ghost use Rattle.history.specs.Words.{count_place, code, Holds, Sane};
 ghost use Rattle.history.specs.Readings.{rotation_of};
 
+use super::layout::Layout;
 use pauli::corrupt::Corrupt;
 use pauli::sets::contains;
 
@@ -39,19 +40,19 @@ pub struct Rotation {
 }
 
 // The rotation `id`, dead ones too; or none, where there is no such rotation.
-pub fn read(h: &[u64], l: usize, cap: usize, id: usize) -> Result<Option<Rotation>, Corrupt>
-    requires { (count_place cap l ≤ length h.now) × (cap ≤ 16777216) × (l ≤ 362) }
-    ensures nothing { (f : Form) (n : ℕ) (m : State) → Holds f n cap l m h.now → Sane m → not_readable m.events id ≡ true → result ≡ Ok None }
-    ensures says { (f : Form) (n : ℕ) (m : State) → Holds f n cap l m h.now → Sane m → not_readable m.events id ≡ false → result ≡ Ok (Some (rotation_of (reading m.events id))) }
+pub fn read(h: &[u64], layout: &Layout, id: usize) -> Result<Option<Rotation>, Corrupt>
+    requires { (count_place layout.now.cap layout.now.l ≤ length h.now) × (layout.now.l ≤ 362) }
+    ensures nothing { (f : Form) (n : ℕ) (m : State) → Holds f n layout.now.cap layout.now.l m h.now → Sane m → not_readable m.events id ≡ true → result ≡ Ok None }
+    ensures says { (f : Form) (n : ℕ) (m : State) → Holds f n layout.now.cap layout.now.l m h.now → Sane m → not_readable m.events id ≡ false → result ≡ Ok (Some (rotation_of (reading m.events id))) }
 {
     let events = h[0] as usize;
-    if cap < events {
+    if layout.cap < events {
         return Err(Corrupt);
     }
     if events <= id {
         return Ok(None);
     }
-    let word = h[2 + 4 * cap + id];
+    let word = h[layout.tag(id)];
     if word == 0 {
         return Ok(None);
     }
@@ -63,6 +64,6 @@ pub fn read(h: &[u64], l: usize, cap: usize, id: usize) -> Result<Option<Rotatio
         3 => -1,
         _ => return Err(Corrupt),
     };
-    let live = contains(&h[2 + 6 * cap + cap * (2 * l)..], id);
+    let live = contains(&h[layout.alive()..], id);
     Ok(Some(Rotation { tag, sign, live }))
 }

@@ -7,6 +7,7 @@ pub mod events;
 pub mod findings;
 pub mod forms;
 pub mod kill;
+pub mod layout;
 pub mod looks;
 pub mod opening;
 pub mod record;

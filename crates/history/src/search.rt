@@ -9,6 +9,7 @@ ghost use Rattle.history.specs.Phases.{candidate_of, label_of, Onward, Met, Turn
 
 use super::chains::bucket;
 use super::findings::Candidate;
+use super::layout::Layout;
 use lists::budget::Budget;
 use pauli::corrupt::Corrupt;
 use pauli::rows::same;
@@ -36,8 +37,7 @@ fn onward(h: &[u64], cap: usize, cur: usize, left: Budget) -> Result<Visit, Corr
 // Event cur - 1 of a chain: it is none, or before the last clear, or of another label, or of this one, which costs a step.
 fn turn(
     h: &[u64],
-    cap: usize,
-    l: usize,
+    layout: &Layout,
     events: usize,
     cleared: usize,
     high: u64,
@@ -46,9 +46,9 @@ fn turn(
     cur: usize,
     left: Budget,
 ) -> Result<Visit, Corrupt>
-    requires { (alive_place cap l ≤ length h.now) × (events ≤ cap) × (length axis.now ≡ 2 * l) × (1 ≤ cur) }
+    requires { (alive_place layout.now.cap layout.now.l ≤ length h.now) × (events ≤ layout.now.cap) × (length axis.now ≡ 2 * layout.now.l) × (1 ≤ cur) }
     ensures falls { IfOk result (Falls cur) }
-    ensures turn { (f : Form) (n : ℕ) (m : State) → Met f n m cap l events cleared low (cur - 1) h.now → IsOkAnd result (Turn m cap high low (of_row 0 axis.now).x (of_row 0 axis.now).z cur left) }
+    ensures turn { (f : Form) (n : ℕ) (m : State) → Met f n m layout.now.cap layout.now.l events cleared low (cur - 1) h.now → IsOkAnd result (Turn m layout.now.cap high low (of_row 0 axis.now).x (of_row 0 axis.now).z cur left) }
 {
     let id = cur - 1;
     if events <= id {
@@ -57,44 +57,42 @@ fn turn(
     if id < cleared {
         return Ok(Visit::Stop(Candidate::Nothing(left)));
     }
-    let at = 2 + 2 * cap + 2 * id;
+    let at = layout.label(id);
     if h[at] != high || h[at + 1] != low {
-        return onward(h, cap, cur, left);
+        return onward(h, layout.cap, cur, left);
     }
     let Some(rest) = left.spend(1) else {
         return Ok(Visit::Stop(Candidate::Out(left)));
     };
-    let words = 2 * l;
-    let from = 2 + 6 * cap + id * words;
-    if same(&h[from..from + words], axis) {
+    let from = layout.axis(id);
+    if same(&h[from..from + 2 * layout.l], axis) {
         return Ok(Visit::Stop(Candidate::Match(id, rest)));
     }
-    onward(h, cap, cur, rest)
+    onward(h, layout.cap, cur, rest)
 }
 
 // The newest live rotation since the last clear with the label (high, low) and the axis.
 pub fn candidate(
     h: &[u64],
-    cap: usize,
-    l: usize,
+    layout: &Layout,
     high: u64,
     low: u64,
     axis: &[u64],
     budget: Budget,
 ) -> Result<Candidate, Corrupt>
-    requires { (1 ≤ cap) × (cap ≤ 16777216) × (alive_place cap l ≤ length h.now) × (length axis.now ≡ 2 * l) }
-    ensures { (f : Form) (n : ℕ) (m : State) → Holds f n cap l m h.now → result ≡ Ok (candidate_of (walk (phase1 m (label_of high low) (of_row 0 axis.now).x (of_row 0 axis.now).z) budget.0)) }
+    requires { (1 ≤ layout.now.cap) × (alive_place layout.now.cap layout.now.l ≤ length h.now) × (length axis.now ≡ 2 * layout.now.l) }
+    ensures { (f : Form) (n : ℕ) (m : State) → Holds f n layout.now.cap layout.now.l m h.now → result ≡ Ok (candidate_of (walk (phase1 m (label_of high low) (of_row 0 axis.now).x (of_row 0 axis.now).z) budget.0)) }
 {
     let events = h[0] as usize;
     let cleared = h[1] as usize;
-    if cap < events {
+    if layout.cap < events {
         return Err(Corrupt);
     }
-    let k = bucket(low, cap);
+    let k = bucket(low, layout.cap);
     let mut cur = h[2 + k] as usize;
     let mut left = budget;
     while cur != 0 {
-        match turn(h, cap, l, events, cleared, high, low, axis, cur, left)? {
+        match turn(h, layout, events, cleared, high, low, axis, cur, left)? {
             Visit::On(next, rest) => {
                 cur = next;
                 left = rest;

@@ -9,6 +9,7 @@ ghost use Rattle.marking.specs.Marks.{qubits_of, events_of, rotation_about, bloc
 use super::rows::{axis_into, product_into, row_into};
 use frame::axes::{Basis, Kind, Tag, label, row_sign};
 use history::events::Body;
+use history::layout::Layout;
 use pauli::corrupt::Corrupt;
 use store::header::Sizes;
 
@@ -27,15 +28,15 @@ fn put(s: &mut [u64], z: &Sizes, row: &[u64], body: Body) -> Result<(), Corrupt>
     ensures fit { Fit z.now s.new }
     ensures done { Puts row.now body s.old (is_ok result) s.new }
 {
-    history::record::record(
-        &mut s[z.at..z.end],
-        z.form,
-        z.n,
-        z.l,
-        z.cap,
-        &row[1..],
-        body,
-    )?;
+    let Sizes {
+        form,
+        n,
+        l,
+        cap,
+        ..
+    } = *z;
+    let layout = Layout { form, n, l, cap };
+    history::record::record(&mut s[z.at..z.end], &layout, &row[1..], body)?;
     Ok(())
 }
 

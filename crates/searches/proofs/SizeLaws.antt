@@ -23,6 +23,3 @@ scalar-Sized h e = record { some = omega arith; few = omega arith; planes = omeg
 
 pub sliced-Sized : (h : List ℕ) → length h ≡ 584 → Sized sliced 1 64 1 h
 sliced-Sized h e = record { some = omega arith; few = omega arith; planes = omega arith; narrow = (omega arith, refl); long = e ∙ sym sliced_room_lem }
-
-pub scalar_long : (h : List ℕ) → Sized scalar 1 4 1 h → length h ≡ 419
-scalar_long h s = s.long ∙ scalar_room

@@ -4,13 +4,13 @@
 #![tactic(auto)]
 
 ghost use Rattle.std.specs.Prelude.{◌≡◌, ◌≤◌, length};
-ghost use Rattle.model.specs.Events.{scalar};
-ghost use Rattle.history.specs.Sizes.{form_of, Sized};
+ghost use Rattle.history.specs.Sizes.{Fits};
 
 use history::events::Body;
 use history::findings::{Found, Look};
 use history::forms::Form;
 use history::kill::KillError;
+use history::layout::Layout;
 use pauli::corrupt::Corrupt;
 use std::{fmt, io};
 
@@ -40,8 +40,8 @@ fn name(form: Form) -> &'static str {
 }
 
 // Records a rotation about Z0, and tells whether it is kept with this number.
-fn rotate(h: &mut [u64], form: Form, cap: usize, number: usize) -> bool
-    requires { Sized (form_of form) 1 cap 1 h.old }
+fn rotate(h: &mut [u64], layout: &Layout, number: usize) -> bool
+    requires { Fits layout.now h.old × (layout.now.l ≡ 1) }
     ensures { length h.new ≡ length h.old }
 {
     let body = Body::Rotation {
@@ -50,18 +50,18 @@ fn rotate(h: &mut [u64], form: Form, cap: usize, number: usize) -> bool
         high: 0,
         low: 0,
     };
-    history::record::record(h, form, 1, 1, cap, &[0, 1], body) == Ok(number)
+    history::record::record(h, layout, &[0, 1], body) == Ok(number)
 }
 
 // An empty history, and so many rotations about Z0. The answer is how many of them are kept with the next number.
-fn filled(h: &mut [u64], form: Form, cap: usize, many: usize) -> usize
-    requires { Sized (form_of form) 1 cap 1 h.old }
+fn filled(h: &mut [u64], layout: &Layout, many: usize) -> usize
+    requires { Fits layout.now h.old × (layout.now.l ≡ 1) }
     ensures { length h.new ≡ length h.old }
 {
-    history::opening::fresh(h, form, 1, 1, cap);
+    history::opening::fresh(h, layout);
     let mut kept = 0;
     for i in 0..many {
-        if rotate(h, form, cap, i) {
+        if rotate(h, layout, i) {
             kept += 1;
         }
     }
@@ -73,27 +73,27 @@ fn searched(
     rt: &impl Print,
     case: u32,
     h: &mut [u64],
-    form: Form,
-    cap: usize,
+    layout: &Layout,
     many: usize,
     allowance: u32,
 ) -> io::Result<()>
-    requires { Sized (form_of form) 1 cap 1 h.old }
+    requires { Fits layout.now h.old × (layout.now.l ≡ 1) }
     ensures { length h.new ≡ length h.old }
 {
-    let kept = filled(h, form, cap, many);
-    let look = Outcome(history::looks::look(h, form, 1, 1, cap, &[0, 1], 1, 0, 0, allowance));
-    let form = name(form);
+    let kept = filled(h, layout, many);
+    let look = Outcome(history::looks::look(h, layout, &[0, 1], 1, 0, 0, allowance));
+    let form = name(layout.form);
     println!(rt; "case={case} form={form} recorded={kept} allowance={allowance} look={look}")
 }
 
 // Kills a rotation of a scalar history of four, and writes the two counts of list 0, whose words are 35 and 36.
-fn killed(rt: &impl Print, h: &mut [u64], kept: usize, id: usize) -> io::Result<()>
-    requires { Sized scalar 1 4 1 h.old }
+fn killed(rt: &impl Print, h: &mut [u64], layout: &Layout, kept: usize, id: usize) -> io::Result<()>
+    requires { Fits layout.now h.old × (37 ≤ length h.old) }
     ensures { length h.new ≡ length h.old }
 {
-    print!(rt; "case=12 form=scalar recorded={kept}")?;
-    match history::kill::kill(h, Form::Scalar, 1, 1, 4, id) {
+    let form = name(layout.form);
+    print!(rt; "case=12 form={form} recorded={kept}")?;
+    match history::kill::kill(h, layout, id) {
         Ok(()) => print!(rt; " killed={id}")?,
         Err(KillError::NoSuchEvent) => print!(rt; " refused")?,
         Err(KillError::Corrupt) => print!(rt; " bad")?,
@@ -104,14 +104,26 @@ fn killed(rt: &impl Print, h: &mut [u64], kept: usize, id: usize) -> io::Result<
 }
 
 fn main(rt: HostRuntime) -> io::Result<()> {
+    let four = Layout {
+        form: Form::Scalar,
+        n: 1,
+        l: 1,
+        cap: 4,
+    };
     let mut few = [7u64; 419];
-    searched(&rt, 9, &mut few, Form::Scalar, 4, 1, 1)?;
-    searched(&rt, 9, &mut few, Form::Scalar, 4, 1, 0)?;
+    searched(&rt, 9, &mut few, &four, 1, 1)?;
+    searched(&rt, 9, &mut few, &four, 1, 0)?;
+    let block = Layout {
+        form: Form::Sliced,
+        n: 1,
+        l: 1,
+        cap: 64,
+    };
     let mut many = [7u64; 584];
-    searched(&rt, 9, &mut many, Form::Sliced, 64, 1, 1)?;
-    searched(&rt, 10, &mut many, Form::Sliced, 64, 64, 1000)?;
-    searched(&rt, 10, &mut many, Form::Sliced, 64, 63, 1000)?;
-    let kept = filled(&mut few, Form::Scalar, 4, 4);
-    killed(&rt, &mut few, kept, 0)?;
-    killed(&rt, &mut few, kept, 1)
+    searched(&rt, 9, &mut many, &block, 1, 1)?;
+    searched(&rt, 10, &mut many, &block, 64, 1000)?;
+    searched(&rt, 10, &mut many, &block, 63, 1000)?;
+    let kept = filled(&mut few, &four, 4);
+    killed(&rt, &mut few, &four, kept, 0)?;
+    killed(&rt, &mut few, &four, kept, 1)
 }

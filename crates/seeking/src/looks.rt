@@ -17,6 +17,7 @@ ghost use Rattle.seeking.specs.Sights.{SignSeen, sight_of};
 use frame::axes::{Basis, Kind, axis_row, label, row_sign, y_product};
 use history::findings::{Found, Look};
 use history::forms::Form;
+use history::layout::Layout;
 use pauli::rows::opposite;
 use store::answers::Sight;
 use store::header::{Sizes, check, sizes_of};
@@ -76,12 +77,10 @@ fn sought(
     ensures says { (m : State) → Held m s.now → IsRow l row.now 0 (axis paulis (kind_of kind) q m.frame) → told_look result ≡ looked (look (kind_of kind) q m) }
 {
     let tag = label(&s[14..at], n, l, kind, q);
+    let layout = Layout { form, n, l, cap };
     match history::looks::look(
         &s[at..end],
-        form,
-        n,
-        l,
-        cap,
+        &layout,
         &row[1..],
         1,
         tag.high,

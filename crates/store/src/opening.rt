@@ -11,6 +11,7 @@ ghost use Rattle.store.specs.Checks.{Stamped};
 use super::header::{history_place, history_room};
 use super::refusals::OpenError;
 use history::forms::Form;
+use history::layout::Layout;
 
 // "The sliced form takes n up to 32."
 fn too_wide(form: Form, n: usize) -> bool
@@ -81,7 +82,7 @@ fn begin(s: &mut [u64], n: usize, cap: usize, allowance: u64, form: Form, labels
     let end = at + history_room(form, n, l, cap);
     stamp(s, n, cap, allowance, form);
     frame::opening::fresh(&mut s[14..at], n, l, labels);
-    history::opening::fresh(&mut s[at..end], form, n, l, cap);
+    history::opening::fresh(&mut s[at..end], &Layout { form, n, l, cap });
 }
 
 // Opens a store: n qubits, room for cap events, the steps of a look, the form of the lists, and the labels, four words a qubit.

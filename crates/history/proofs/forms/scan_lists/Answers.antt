@@ -11,16 +11,16 @@ use native.Mathlib.Omega.{arith}
 use Rattle.history.proofs.forms.scan_lists.Goals as goal
 use Rattle.history.proofs.forms.scan_lists.Goals.{In-Scalar, In-Sliced}
 
-scalar : (c : In-Scalar) → let a = c.args in Sized model.scalar a.n a.cap a.l a.h.now
-scalar c = as_Scalar c.args.form c.args.n c.args.cap c.args.l c.args.h.now c.in-Scalar.is c.requires.0
+scalar : (c : In-Scalar) → let a = c.args in Sized model.scalar a.layout.now.n a.layout.now.cap a.layout.now.l a.h.now
+scalar c = as_Scalar c.args.layout.now.form c.args.layout.now.n c.args.layout.now.cap c.args.layout.now.l c.args.h.now c.in-Scalar.is c.requires.0
 
-sliced : (c : In-Sliced) → let a = c.args in Sized model.sliced a.n a.cap a.l a.h.now
-sliced c = as_Sliced c.args.form c.args.n c.args.cap c.args.l c.args.h.now c.in-Sliced.is c.requires.0
+sliced : (c : In-Sliced) → let a = c.args in Sized model.sliced a.layout.now.n a.layout.now.cap a.layout.now.l a.h.now
+sliced c = as_Sliced c.args.layout.now.form c.args.layout.now.n c.args.layout.now.cap c.args.layout.now.l c.args.h.now c.in-Sliced.is c.requires.0
 
 pub scan-requires-clause-room : goal.scan-requires-clause-room
 scan-requires-clause-room c =
     let a = c.args in
-    scalar_reads a.n a.cap a.l a.h.now (scalar (goal.at.scan-requires-clause-room c).In-Scalar) c.scalar_lists-lists.result c.scalar_lists-lists.ensures a.events a.axis.now c.requires.2 c.requires.1
+    scalar_reads a.layout.now.n a.layout.now.cap a.layout.now.l a.h.now (scalar (goal.at.scan-requires-clause-room c).In-Scalar) c.scalar_lists-lists.result c.scalar_lists-lists.ensures a.events a.axis.now c.requires.2 c.requires.1
 
 pub bounds-axis-0 : goal.bounds-axis-0
 bounds-axis-0 c = omega (arith, (sliced (goal.at.bounds-axis-0 c).In-Sliced).narrow.1)
@@ -31,49 +31,49 @@ bounds-axis-1 c = omega (arith, (sliced (goal.at.bounds-axis-1 c).In-Sliced).nar
 pub overflow_shr-set : goal.overflow_shr-set
 overflow_shr-set c = omega (arith, (sliced (goal.at.overflow_shr-set c).In-Sliced).narrow.0)
 
-pub returns-then-set-n-ne0 : goal.returns-then-set-n-ne0
-returns-then-set-n-ne0 c =
+pub returns-then-set-layout-ne0 : goal.returns-then-set-layout-ne0
+returns-then-set-layout-ne0 c =
     let a = c.args in
-    let z = sliced (goal.at.returns-then-set-n-ne0 c).In-Sliced in
+    let z = sliced (goal.at.returns-then-set-layout-ne0 c).In-Sliced in
     λ m held scanned x_small z_small.
-    absurd (c.if-set-n-ne0.true (narrow_small a.axis.now a.l c.requires.1 z.narrow.1 a.n x_small z_small))
+    absurd (c.if-set-layout-ne0.true (narrow_small a.axis.now a.layout.now.l c.requires.1 z.narrow.1 a.layout.now.n x_small z_small))
 
 pub sliced_lists-lists-requires : goal.sliced_lists-lists-requires
 sliced_lists-lists-requires c =
     let z = sliced (goal.at.sliced_lists-lists-requires c).In-Sliced in
-    (z.few, z.planes, z.narrow.0)
+    (z.planes, z.narrow.0)
 
 pub scan-requires-in-Sliced-clause-room : goal.scan-requires-in-Sliced-clause-room
 scan-requires-in-Sliced-clause-room c =
     let a = c.args in
     let x = get_or a.axis.now 0 0 in
     let z = get_or a.axis.now 1 0 in
-    sliced_takes a.n a.cap a.l a.h.now (sliced (goal.at.scan-requires-in-Sliced-clause-room c).In-Sliced) c.sliced_lists-lists.result c.sliced_lists-lists.ensures
-    a.axis.now c.requires.1 (or_left a.n x z c.if-set-n-ne0.false) (or_right a.n x z c.if-set-n-ne0.false) a.h.now refl
+    sliced_takes a.layout.now.n a.layout.now.cap a.layout.now.l a.h.now (sliced (goal.at.scan-requires-in-Sliced-clause-room c).In-Sliced) c.sliced_lists-lists.result c.sliced_lists-lists.ensures
+    a.axis.now c.requires.1 (or_left a.layout.now.n x z c.if-set-layout-ne0.false) (or_right a.layout.now.n x z c.if-set-layout-ne0.false) a.h.now refl
 
 pub scan-requires-in-Sliced-clause-there : goal.scan-requires-in-Sliced-clause-there
 scan-requires-in-Sliced-clause-there c =
     let a = c.args in
     let set = bit_or (get_or a.axis.now 0 0) (get_or a.axis.now 1 0) in
-    sliced_there a.n a.cap a.l a.h.now (sliced (goal.at.scan-requires-in-Sliced-clause-there c).In-Sliced) c.sliced_lists-lists.result c.sliced_lists-lists.ensures
-    set (shr_none a.n set c.if-set-n-ne0.false)
+    sliced_there a.layout.now.n a.layout.now.cap a.layout.now.l a.h.now (sliced (goal.at.scan-requires-in-Sliced-clause-there c).In-Sliced) c.sliced_lists-lists.result c.sliced_lists-lists.ensures
+    set (shr_none a.layout.now.n set c.if-set-layout-ne0.false)
 
 pub returns-in-Scalar : goal.returns-in-Scalar
 returns-in-Scalar c =
     let a = c.args in
     let s = c.scalar_lists-lists in
     λ m held scanned x_small z_small.
-    scalar_scan a.n a.cap a.l a.h.now (scalar (goal.at.returns-in-Scalar c).In-Scalar) s.result s.ensures a.events a.axis.now c.signature.result a.after a.budget c.scan.result c.scan.ensures
-    m (all_scannable a.n a.cap a.l a.events m a.h.now (held_Scalar a.n a.cap a.l a.h.now a.form m c.in-Scalar.is held) scanned) c.signature.ensures
+    scalar_scan a.layout.now.n a.layout.now.cap a.layout.now.l a.h.now (scalar (goal.at.returns-in-Scalar c).In-Scalar) s.result s.ensures a.events a.axis.now c.signature.result a.after a.budget c.scan.result c.scan.ensures
+    m (all_scannable a.layout.now.n a.layout.now.cap a.layout.now.l a.events m a.h.now (held_Scalar a.layout.now.n a.layout.now.cap a.layout.now.l a.h.now a.layout.now.form m c.in-Scalar.is held) scanned) c.signature.ensures
 
-pub returns-else-set-n-ne0 : goal.returns-else-set-n-ne0
-returns-else-set-n-ne0 c =
+pub returns-else-set-layout-ne0 : goal.returns-else-set-layout-ne0
+returns-else-set-layout-ne0 c =
     let a = c.args in
     let x = get_or a.axis.now 0 0 in
     let y = get_or a.axis.now 1 0 in
     let s = c.sliced_lists-lists in
-    let z = sliced (goal.at.returns-else-set-n-ne0 c).In-Sliced in
+    let z = sliced (goal.at.returns-else-set-layout-ne0 c).In-Sliced in
     λ m held scanned x_small z_small.
-    narrow_scan a.axis.now a.l c.requires.1 z.narrow.1 m a.after a.budget.0 c.scan-in-Sliced.result
-    (sliced_scan a.n a.cap a.l a.h.now z s.result s.ensures x y a.after a.budget c.scan-in-Sliced.result (or_left a.n x y c.if-set-n-ne0.false) (or_right a.n x y c.if-set-n-ne0.false)
-    c.scan-in-Sliced.ensures m (all_sliced a.n a.cap a.l m a.h.now (held_Sliced a.n a.cap a.l a.h.now a.form m c.in-Sliced.is held)))
+    narrow_scan a.axis.now a.layout.now.l c.requires.1 z.narrow.1 m a.after a.budget.0 c.scan-in-Sliced.result
+    (sliced_scan a.layout.now.n a.layout.now.cap a.layout.now.l a.h.now z s.result s.ensures x y a.after a.budget c.scan-in-Sliced.result (or_left a.layout.now.n x y c.if-set-layout-ne0.false) (or_right a.layout.now.n x y c.if-set-layout-ne0.false)
+    c.scan-in-Sliced.ensures m (all_sliced a.layout.now.n a.layout.now.cap a.layout.now.l m a.h.now (held_Sliced a.layout.now.n a.layout.now.cap a.layout.now.l a.h.now a.layout.now.form m c.in-Sliced.is held)))

@@ -1,8 +1,16 @@
 -- `history::forms::sliced_lists` meets its contract: each place is computed as the specs say. Assumes nothing.
-use mathlib.Core.Path.{refl}
+use Prim.Native.Nat.{◌*◌, ◌≤◌}
+use native.Mathlib.Nat.{mul-le-mul_right}
+use native.Mathlib.Omega.{arith}
 use Rattle.model.specs.Events.{words}
 use Rattle.history.proofs.forms.sliced_lists.Goals as goal
 
-pub returns : goal.returns
+pub overflow_add-result : goal.overflow_add-result
 unfolding words
-returns c = refl
+overflow_add-result c =
+    let z = c.args.layout.now in
+    let few : z.cap ≤ 16777216 = omega arith in
+    omega (arith, mul-le-mul_right (2 * z.l) few)
+
+pub returns : goal.returns
+returns c = rw (c.counts-at.ensures, c.axes.ensures, c.alive.ensures)

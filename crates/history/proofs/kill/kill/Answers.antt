@@ -13,19 +13,19 @@ use Rattle.history.proofs.kill.kill.Goals as goal
 use Rattle.history.proofs.kill.kill.Goals.{In-Some}
 
 -- the rotation read can be killed exactly if it is live
-told : (c : In-Some) (m : State) → let a = c.args in Holds (form_of a.form) a.n a.cap a.l m a.h.now → Sane m → not_killable m.events a.id ≡ not c.in-Some.rotation.live
+told : (c : In-Some) (m : State) → let a = c.args in Holds (form_of a.layout.now.form) a.layout.now.n a.layout.now.cap a.layout.now.l m a.h.now → Sane m → not_killable m.events a.id ≡ not c.in-Some.rotation.live
 told c m holds sane =
     let a = c.args in
     let r = c.read in
-    told_some m.events a.id r.result (r.ensures.nothing (form_of a.form) a.n m holds sane) (r.ensures.says (form_of a.form) a.n m holds sane) c.in-Some.rotation (c.in_ok-rotation.was ∙ ap Ok c.in-Some.is)
+    told_some m.events a.id r.result (r.ensures.nothing (form_of a.layout.now.form) a.layout.now.n m holds sane) (r.ensures.says (form_of a.layout.now.form) a.layout.now.n m holds sane) c.in-Some.rotation (c.in_ok-rotation.was ∙ ap Ok c.in-Some.is)
 
-pub returns-then-cap-id-clause-done : goal.returns-then-cap-id-clause-done
-returns-then-cap-id-clause-done c = λ m holds sane e. absurd (kill_past m.events c.args.cap c.args.id holds.room c.if-cap-id.true e)
+pub returns-then-layout-id-clause-done : goal.returns-then-layout-id-clause-done
+returns-then-layout-id-clause-done c = λ m holds sane e. absurd (kill_past m.events c.args.layout.now.cap c.args.id holds.room c.if-layout-id.true e)
 
 pub read-requires : goal.read-requires
 read-requires c =
     let a = c.args in
-    (counts_there (form_of a.form) a.n a.cap a.l a.h.now c.requires, c.requires.few, c.requires.planes)
+    (counts_there (form_of a.layout.now.form) a.layout.now.n a.layout.now.cap a.layout.now.l a.h.now c.requires, c.requires.planes)
 
 pub returns-in_err-kill_live-in-Some-clause-refused : goal.returns-in_err-kill_live-in-Some-clause-refused
 returns-in_err-kill_live-in-Some-clause-refused c = λ m holds sane e.
@@ -43,7 +43,7 @@ pub returns-in_default-2-clause-done : goal.returns-in_default-2-clause-done
 returns-in_default-2-clause-done c =
     let a = c.args in
     let r = c.read in
-    λ m holds sane e. absurd (told_none m.events a.id r.result (r.ensures.nothing (form_of a.form) a.n m holds sane) (r.ensures.says (form_of a.form) a.n m holds sane) (c.in_ok-rotation.was ∙ ap Ok c.in_default.is) e)
+    λ m holds sane e. absurd (told_none m.events a.id r.result (r.ensures.nothing (form_of a.layout.now.form) a.layout.now.n m holds sane) (r.ensures.says (form_of a.layout.now.form) a.layout.now.n m holds sane) (c.in_ok-rotation.was ∙ ap Ok c.in_default.is) e)
 
 pub returns-clause-refused : goal.returns-clause-refused
 returns-clause-refused c = λ m holds sane e.

@@ -17,28 +17,25 @@ few : (c : In-Rotation) →
     c.in-Rotation.tag < 2 ^ 32
 few c = omega arith
 
-pub returns-in-Blocker : goal.returns-in-Blocker
+pub returns-in-Blocker-clause-stored : goal.returns-in-Blocker-clause-stored
 unfolding body_of
-returns-in-Blocker c =
-    let n = c.note.ensures in (
-      λ es e held count f. stored _ _ _ es e _ _ count (omega arith) f.live
-          (Put-blocker _ _ _ _ _ _ _ e (omega arith) (omega arith) f.live (f.is ∙ ap body_of c.in-Blocker.is) f.x f.z f.sig_is n) held,
-      n.long,
-    )
+returns-in-Blocker-clause-stored c =
+    let n = c.note.ensures in
+    λ es e held count f. stored _ _ _ es e _ _ count (omega arith) f.live
+    (Put-blocker _ _ _ _ _ _ _ e (omega arith) (omega arith) f.live (f.is ∙ ap body_of c.in-Blocker.is) f.x f.z f.sig_is n) held
 
-pub returns-in-Rotation : goal.returns-in-Rotation
+pub returns-in-Rotation-clause-stored : goal.returns-in-Rotation-clause-stored
 unfolding body_of
-returns-in-Rotation c =
+returns-in-Rotation-clause-stored c =
     let a = c.args in
+    let z = a.layout.now in
     let n = c.note-in-Rotation in
     let w = c.body_word in
     let p = c.put_label in
-    let q : IsSign c.in-Rotation.sign = subst SignedBody c.in-Rotation.is c.requires.5 in
-    let word : w.result ≡ 4 * c.in-Rotation.tag + code c.in-Rotation.sign = w.ensures ∙ ap (λ (s : ℤ). 4 * c.in-Rotation.tag + code s) (bits8_sign c.in-Rotation.sign q) in (
-      λ es e held count f. stored _ _ _ es e _ _ count (omega arith) f.live
-          (Put-rotation a.h.now n.new.h p.new.h a.axis.now a.l a.cap a.id a.sig c.in-Rotation.tag c.in-Rotation.sign c.in-Rotation.high c.in-Rotation.low e (omega arith) (omega arith) c.requires.4 f.live
-          (f.is ∙ ap body_of c.in-Rotation.is) (few (goal.at.returns-in-Rotation c).In-Rotation) f.x f.z f.sig_is
-          (subst (λ (y : ℕ). Noted a.h.now a.l a.cap a.id a.axis.now a.sig y n.new.h) word n.ensures)
-          p.ensures) held,
-      p.ensures.long ∙ n.ensures.long,
-    )
+    let q : IsSign c.in-Rotation.sign = subst SignedBody c.in-Rotation.is c.requires.4 in
+    let word : w.result ≡ 4 * c.in-Rotation.tag + code c.in-Rotation.sign = w.ensures ∙ ap (λ (s : ℤ). 4 * c.in-Rotation.tag + code s) (bits8_sign c.in-Rotation.sign q) in
+    λ es e held count f. stored _ _ _ es e _ _ count (omega arith) f.live
+    (Put-rotation a.h.now n.new.h p.new.h a.axis.now z.l z.cap a.id a.sig c.in-Rotation.tag c.in-Rotation.sign c.in-Rotation.high c.in-Rotation.low e (omega arith) (omega arith) c.requires.3 f.live
+    (f.is ∙ ap body_of c.in-Rotation.is) (few (goal.at.returns-in-Rotation-clause-stored c).In-Rotation) f.x f.z f.sig_is
+    (subst (λ (y : ℕ). Noted a.h.now z.l z.cap a.id a.axis.now a.sig y n.new.h) word n.ensures)
+    p.ensures) held

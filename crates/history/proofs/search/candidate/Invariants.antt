@@ -16,7 +16,7 @@ Cursors h cap l high low axis budget cur left =
     → Cursor m cap high low (of_row 0 axis).x (of_row 0 axis).z (walk (phase1 m (label_of high low) (of_row 0 axis).x (of_row 0 axis).z) budget.0) cur left
 
 abbrev pub invariant-loop-cur : goal.invariant-loop-cur
-invariant-loop-cur l = Cursors l.h l.cap l.l l.high l.low l.axis l.initial.left l.cur l.left
+invariant-loop-cur l = Cursors l.h l.layout.cap l.layout.l l.high l.low l.axis l.initial.left l.cur l.left
 
 abbrev pub decreases-loop-cur : goal.decreases-loop-cur
 decreases-loop-cur l = l.cur

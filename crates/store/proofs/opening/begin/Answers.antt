@@ -60,3 +60,6 @@ returns c =
     let rest : p.result + h.result - p.result ≡ history_room (form_of a.form) a.n a.cap ((a.n + 63) / 64) = omega (arith, h.ensures) in
     begun a.n a.cap a.allowance (form_of a.form) a.labels.now a.s.now c.stamp.new.s c.fresh.new.s c.fresh-2.new.h (p.result - 14) (p.result + h.result - p.result) p.result p.ensures first rest c.requires
     c.stamp.ensures c.fresh.ensures c.fresh-2.ensures
+
+pub invariant_of-fresh : goal.invariant_of-fresh
+invariant_of-fresh c = record { few = (sizes (goal.at.invariant_of-fresh c).Start).few_events }
