@@ -1,13 +1,12 @@
 // A sliced list (the Rust's `SlicedList`): event numbers, rising, with the axes of each block of 64 entries in masks (specs/Blocks.antt). The
-// dead stay until more than half is dead. Its length and its dead count stand at `at`; from `base` on stand `cap` numbers, then 2 n masks
-// for each block, then a live word for each block.
+// dead stay until more than half is dead. Its length and its dead count stand at `at`, the rest in its `ListRoom`.
 ghost use Rattle.std.specs.Prelude.{◌≡◌, true, Ok, IsTrue, IsOk, IsErr, slice_index, List, map, ℕ, ◌+◌, ◌-◌, ◌*◌, ◌≤◌, ◌<◌, ◌^◌, length, get_or};
 ghost use Rattle.std.specs.Int.Count.{ones};
 ghost use Rattle.model.specs.Pauli.{has};
 ghost use Rattle.model.specs.Events.{State, words};
 ghost use Rattle.model.specs.Search.{walk, list_at, sliced_list};
 ghost use Rattle.lists.specs.Lists.{Room, is_live, still, Rises};
-ghost use Rattle.sliced.specs.Blocks.{Entry, entry, entry_of, fresh, sliced_room, Reps, Sliced, SlicedTo, Source, RisingIds, killed_at};
+ghost use Rattle.sliced.specs.Blocks.{mask_place, live_place, Entry, entry, entry_of, fresh, sliced_room, Reps, Sliced, SlicedTo, Source, RisingIds, killed_at};
 ghost use Rattle.lists.specs.Scalars.{pushed};
 ghost use Rattle.lists.specs.Scans.{scan_of};
 ghost use Rattle.sliced.specs.Steps.{Marked, Opened, Appended, Killed, Stepped, Settled, Rebuilt, Spread, visited, and_then};
@@ -19,6 +18,36 @@ use pauli::bits::bits;
 use pauli::corrupt::Corrupt;
 use pauli::fill::clear;
 use pauli::sets::contains;
+
+// ---- the words
+
+// The room of a list: `cap` numbers from `base` on, 2 n masks for each block, a live word for each block.
+#[derive(Clone, Copy, Debug, PartialEq, Eq)]
+pub struct ListRoom {
+    pub base: usize,
+    pub cap: usize,
+    pub n: usize,
+}
+
+impl ListRoom {
+    // Where the masks of block b begin.
+    #[tactic(auto, unfolding(model::specs::Events::words))]
+    fn masks(self, b: usize) -> usize
+        requires { (self.n ≤ 32) × (b ≤ words self.cap) × (self.base + sliced_room self.cap self.n < 2 ^ 64) }
+        ensures { result ≡ mask_place self.base self.cap self.n b }
+    {
+        self.base + self.cap + b * (2 * self.n)
+    }
+
+    // Where the live word of block b stands.
+    #[tactic(auto, unfolding(model::specs::Events::words))]
+    fn live(self, b: usize) -> usize
+        requires { (self.n ≤ 32) × (b ≤ words self.cap) × (self.base + sliced_room self.cap self.n < 2 ^ 64) }
+        ensures { result ≡ live_place self.base self.cap self.n b }
+    {
+        self.base + self.cap + (self.cap + 63) / 64 * (2 * self.n) + b
+    }
+}
 
 // ---- recording
 
@@ -33,54 +62,52 @@ fn mark(h: &mut [u64], at: usize, odd: usize, set: u64, bit: u64)
 }
 
 // Has block len / 64 ready for an entry: where it is a fresh one, its masks and its live word are zeroed.
-fn prepare(h: &mut [u64], base: usize, cap: usize, n: usize, len: usize)
-    requires { Spread h.old base cap n × (len < cap) }
-    ensures { Opened h.old base cap n len h.new }
+#[tactic(auto, unfolding(model::specs::Events::words))]
+fn prepare(h: &mut [u64], room: ListRoom, len: usize)
+    requires { Spread h.old room.base room.cap room.n × (len < room.cap) }
+    ensures { Opened h.old room.base room.cap room.n len h.new }
 {
     if len % 64 == 0 {
-        let masks = base + cap + len / 64 * (2 * n);
-        let live = base + cap + (cap + 63) / 64 * (2 * n) + len / 64;
-        clear(h, masks, 2 * n);
-        h[live] = 0;
+        clear(h, room.masks(len / 64), 2 * room.n);
+        h[room.live(len / 64)] = 0;
     }
 }
 
 // Puts an entry with the axis (x, z) behind the first len.
-fn append(h: &mut [u64], base: usize, cap: usize, n: usize, len: usize, id: u64, x: u64, z: u64)
-    requires { Spread h.old base cap n × (len < cap) × (x < 2 ^ n) × (z < 2 ^ n) }
-    ensures { Appended h.old base cap n len (fresh id x z) h.new }
+#[tactic(auto, unfolding(model::specs::Events::words))]
+fn append(h: &mut [u64], room: ListRoom, len: usize, id: u64, x: u64, z: u64)
+    requires { Spread h.old room.base room.cap room.n × (len < room.cap) × (x < 2 ^ room.n) × (z < 2 ^ room.n) }
+    ensures { Appended h.old room.base room.cap room.n len (fresh id x z) h.new }
 {
-    let masks = base + cap + len / 64 * (2 * n);
-    let live = base + cap + (cap + 63) / 64 * (2 * n) + len / 64;
+    let masks = room.masks(len / 64);
+    let live = room.live(len / 64);
     let bit = 1u64 << (len % 64);
-    prepare(h, base, cap, n, len);
+    prepare(h, room, len);
     mark(h, masks, 0, x, bit);
     mark(h, masks, 1, z, bit);
     h[live] |= bit;
-    h[base + len] = id;
+    h[room.base + len] = id;
 }
 
 // Appends the event `id` with the axis (x, z), unless the list is full.
 pub fn push(
     h: &mut [u64],
     at: usize,
-    base: usize,
-    cap: usize,
-    n: usize,
+    room: ListRoom,
     id: u64,
     x: u64,
     z: u64,
 ) -> Result<(), Corrupt>
-    requires { Room h.old at base (sliced_room cap n) × (n ≤ 32) × (x < 2 ^ n) × (z < 2 ^ n) }
+    requires { Room h.old at room.base (sliced_room room.cap room.n) × (room.n ≤ 32) × (x < 2 ^ room.n) × (z < 2 ^ room.n) }
     ensures long { length h.new ≡ length h.old }
-    ensures full { cap ≤ get_or h.old at 0 → IsErr result }
-    ensures done { (m : List Entry) (d : ℕ) → Sliced h.old at base cap n m d → length m < cap → IsOk result × SlicedTo h.old at base cap n (pushed (fresh id x z) m) d h.new }
+    ensures full { room.cap ≤ get_or h.old at 0 → IsErr result }
+    ensures done { (m : List Entry) (d : ℕ) → Sliced h.old at room.base room.cap room.n m d → length m < room.cap → IsOk result × SlicedTo h.old at room.base room.cap room.n (pushed (fresh id x z) m) d h.new }
 {
     let len = h[at] as usize;
-    if cap <= len {
+    if room.cap <= len {
         return Err(Corrupt);
     }
-    append(h, base, cap, n, len, id, x, z);
+    append(h, room, len, id, x, z);
     h[at] = (len + 1) as u64;
     Ok(())
 }
@@ -90,17 +117,15 @@ pub fn push(
 // Keeps the entry of event `id` at place k, where the event is live; the answer is where the next entry that is kept goes.
 fn keep(
     h: &mut [u64],
-    base: usize,
-    cap: usize,
-    n: usize,
+    room: ListRoom,
     k: usize,
     alive: usize,
     axes: usize,
     events: usize,
     id: u64,
 ) -> Result<usize, Corrupt>
-    requires { Spread h.old base cap n × (k < cap) × (alive + words events ≤ base) × (axes + 2 * events ≤ base) }
-    ensures { Stepped h.old base cap n k alive axes events id result h.new }
+    requires { Spread h.old room.base room.cap room.n × (k < room.cap) × (alive + words events ≤ room.base) × (axes + 2 * events ≤ room.base) }
+    ensures { Stepped h.old room.base room.cap room.n k alive axes events id result h.new }
 {
     let e = id as usize;
     if events <= e {
@@ -112,10 +137,10 @@ fn keep(
     }
     let x = h[axes + 2 * e];
     let z = h[axes + (2 * e + 1)];
-    if (x | z) >> n != 0 {
+    if (x | z) >> room.n != 0 {
         return Err(Corrupt);
     }
-    append(h, base, cap, n, k, id, x, z);
+    append(h, room, k, id, x, z);
     Ok(k + 1)
 }
 
@@ -135,21 +160,19 @@ fn all_live(h: &[u64], at: usize, alive: usize, events: usize) -> bool
 }
 
 // How many blocks at the front are full of live entries. A rebuild leaves these as they are: what merges away is mostly recent.
+#[tactic(auto, unfolding(model::specs::Events::words))]
 fn settled(
     h: &[u64],
-    base: usize,
-    cap: usize,
-    n: usize,
+    room: ListRoom,
     len: usize,
     alive: usize,
     events: usize,
 ) -> usize
-    requires { Spread h.now base cap n × (len ≤ cap) × (alive + words events ≤ base) × (events ≤ base) }
-    ensures { Settled h.now base cap n len alive result }
+    requires { Spread h.now room.base room.cap room.n × (len ≤ room.cap) × (alive + words events ≤ room.base) × (events ≤ room.base) }
+    ensures { Settled h.now room.base room.cap room.n len alive result }
 {
-    let lives = base + cap + (cap + 63) / 64 * (2 * n);
     for b in 0..len / 64 {
-        if h[lives + b] != !0 || !all_live(h, base + 64 * b, alive, events) {
+        if h[room.live(b)] != !0 || !all_live(h, room.base + 64 * b, alive, events) {
             return b;
         }
     }
@@ -159,32 +182,31 @@ fn settled(
 // Drops the entries whose events are dead; the answer is how many are left.
 fn rebuild(
     h: &mut [u64],
-    base: usize,
-    cap: usize,
-    n: usize,
+    room: ListRoom,
     len: usize,
     alive: usize,
     axes: usize,
     events: usize,
 ) -> Result<usize, Corrupt>
-    requires { Spread h.old base cap n × (len ≤ cap) × (alive + words events ≤ base) × (axes + 2 * events ≤ base) }
-    ensures { Rebuilt h.old base cap n len alive axes events result h.new }
+    requires { Spread h.old room.base room.cap room.n × (len ≤ room.cap) × (alive + words events ≤ room.base) × (axes + 2 * events ≤ room.base) }
+    ensures { Rebuilt h.old room.base room.cap room.n len alive axes events result h.new }
 {
-    let front = 64 * settled(h, base, cap, n, len, alive, events);
+    let front = 64 * settled(h, room, len, alive, events);
     let mut k = front;
     for i in front..len {
-        let id = h[base + i];
-        k = keep(h, base, cap, n, k, alive, axes, events, id)?;
+        let id = h[room.base + i];
+        k = keep(h, room, k, alive, axes, events, id)?;
     }
     Ok(k)
 }
 
 // Marks the entry at pos dead.
-fn mark_dead(h: &mut [u64], base: usize, cap: usize, n: usize, pos: usize)
-    requires { Spread h.old base cap n × (pos < cap) }
-    ensures { Killed h.old base cap n pos h.new }
+#[tactic(auto, unfolding(model::specs::Events::words))]
+fn mark_dead(h: &mut [u64], room: ListRoom, pos: usize)
+    requires { Spread h.old room.base room.cap room.n × (pos < room.cap) }
+    ensures { Killed h.old room.base room.cap room.n pos h.new }
 {
-    let live = base + cap + (cap + 63) / 64 * (2 * n) + pos / 64;
+    let live = room.live(pos / 64);
     h[live] &= !(1u64 << (pos % 64));
 }
 
@@ -193,34 +215,32 @@ fn mark_dead(h: &mut [u64], base: usize, cap: usize, n: usize, pos: usize)
 pub fn kill(
     h: &mut [u64],
     at: usize,
-    base: usize,
-    cap: usize,
-    n: usize,
+    room: ListRoom,
     id: u64,
     alive: usize,
     axes: usize,
     events: usize,
 ) -> Result<(), Corrupt>
-    requires { Room h.old at base (sliced_room cap n) × (n ≤ 32) × (alive + words events ≤ at) × (axes + 2 * events ≤ at) }
+    requires { Room h.old at room.base (sliced_room room.cap room.n) × (room.n ≤ 32) × (alive + words events ≤ at) × (axes + 2 * events ≤ at) }
     ensures long { length h.new ≡ length h.old }
-    ensures over { cap < get_or h.old at 0 → IsErr result }
+    ensures over { room.cap < get_or h.old at 0 → IsErr result }
     ensures all { get_or h.old at 0 ≤ get_or h.old (at + 1) 0 → IsErr result }
-    ensures done { (m : List Entry) (d pos : ℕ) → Sliced h.old at base cap n m d → d < length m → RisingIds m → Source h.old n axes events m → pos < length m → (entry m pos).id ≡ id → IsOk result × SlicedTo h.old at base cap n (killed_at h.old alive d pos m) (still 2 (d + 1) (length m)) h.new }
+    ensures done { (m : List Entry) (d pos : ℕ) → Sliced h.old at room.base room.cap room.n m d → d < length m → RisingIds m → Source h.old room.n axes events m → pos < length m → (entry m pos).id ≡ id → IsOk result × SlicedTo h.old at room.base room.cap room.n (killed_at h.old alive d pos m) (still 2 (d + 1) (length m)) h.new }
 {
     let len = h[at] as usize;
     let dead = h[at + 1] as usize;
-    if cap < len || len <= dead {
+    if room.cap < len || len <= dead {
         return Err(Corrupt);
     }
-    let Some(pos) = place_of(&h[base..base + len], id) else {
+    let Some(pos) = place_of(&h[room.base..room.base + len], id) else {
         return Err(Corrupt);
     };
     if 2 * (dead + 1) <= len {
-        mark_dead(h, base, cap, n, pos);
+        mark_dead(h, room, pos);
         h[at + 1] = (dead + 1) as u64;
         return Ok(());
     }
-    let k = rebuild(h, base, cap, n, len, alive, axes, events)?;
+    let k = rebuild(h, room, len, alive, axes, events)?;
     h[at] = k as u64;
     h[at + 1] = 0;
     Ok(())
@@ -264,30 +284,28 @@ fn visit_two(live: u64, next: u64, words: [u64; 2], first: u64, left: Budget) ->
 
 // The blocks of a list of len entries from the one where the first entry after the event `after` would stand: each costs its live entries,
 // earlier ones too, and is then tested. They go two by two, so that the axis is walked half as often (no `for`: an odd one is left for the end).
+#[tactic(auto, unfolding(model::specs::Events::words))]
 pub fn scan(
     h: &[u64],
-    base: usize,
-    cap: usize,
-    n: usize,
+    room: ListRoom,
     len: usize,
     after: usize,
     ax: u64,
     az: u64,
     budget: Budget,
 ) -> Scan
-    requires { Spread h.now base cap n × (len ≤ cap) × (ax < 2 ^ n) × (az < 2 ^ n) }
-    ensures { (s : State) (b : ℕ) → length (list_at s b) ≡ len → Reps h.now base cap n (map (entry_of s.events) (list_at s b)) → Rises (list_at s b) → result ≡ scan_of (walk (sliced_list s after ax az b) budget.0) }
+    requires { Spread h.now room.base room.cap room.n × (len ≤ room.cap) × (ax < 2 ^ room.n) × (az < 2 ^ room.n) }
+    ensures { (s : State) (b : ℕ) → length (list_at s b) ≡ len → Reps h.now room.base room.cap room.n (map (entry_of s.events) (list_at s b)) → Rises (list_at s b) → result ≡ scan_of (walk (sliced_list s after ax az b) budget.0) }
 {
-    let start = first_past(&h[base..base + len], after as u64);
+    let start = first_past(&h[room.base..room.base + len], after as u64);
     let used = (len + 63) / 64;
-    let lives = base + cap + (cap + 63) / 64 * (2 * n);
     let mut left = budget;
     let mut b = start / 64;
     let mut first = !0u64 << (start % 64);
     while b + 1 < used {
-        let at = base + cap + b * (2 * n);
-        let words = anticommuting::<2>(&h[at..at + 4 * n], n, ax, az);
-        match visit_two(h[lives + b], h[lives + (b + 1)], words, first, left) {
+        let at = room.masks(b);
+        let words = anticommuting::<2>(&h[at..at + 4 * room.n], room.n, ax, az);
+        match visit_two(h[room.live(b)], h[room.live(b + 1)], words, first, left) {
             Scan::Clear(now) => left = now,
             found => return found,
         }
@@ -295,9 +313,9 @@ pub fn scan(
         b += 2;
     }
     if b < used {
-        let at = base + cap + b * (2 * n);
-        let words = anticommuting::<1>(&h[at..at + 2 * n], n, ax, az);
-        return visit(h[lives + b], words[0], first, left);
+        let at = room.masks(b);
+        let words = anticommuting::<1>(&h[at..at + 2 * room.n], room.n, ax, az);
+        return visit(h[room.live(b)], words[0], first, left);
     }
     Scan::Clear(left)
 }

@@ -14,6 +14,7 @@ ghost use Rattle.support.specs.Runs.{Each, Scans};
 use lists::budget::{Budget, Scan};
 use pauli::bits::bits;
 use pauli::corrupt::Corrupt;
+use sliced::sliced::ListRoom;
 
 // ---- one list of many
 
@@ -218,13 +219,19 @@ pub struct SlicedLists {
 }
 
 impl SlicedLists {
-    // Where the room of list b begins.
-    fn room(&self, b: usize) -> usize
+    // The room of list b.
+    #[tactic(auto, using(crate::proofs::FamilyLaws::room_below), unfolding(model::specs::Events::words))]
+    fn room(&self, b: usize) -> ListRoom
         requires { (self.now.n ≤ 32) × (b < self.now.n) × (self.now.base + self.now.n * sliced_room self.now.cap self.now.n < 2 ^ 64) }
-        ensures { result ≡ self.now.base + b * sliced_room self.now.cap self.now.n }
+        ensures { result ≡ record { base = self.now.base + b * sliced_room self.now.cap self.now.n; cap = self.now.cap; n = self.now.n } }
     {
         let blocks = (self.cap + 63) / 64;
-        self.base + b * (self.cap + blocks * (2 * self.n) + blocks)
+        let size = self.cap + blocks * (2 * self.n) + blocks;
+        ListRoom {
+            base: self.base + b * size,
+            cap: self.cap,
+            n: self.n,
+        }
     }
 }
 
@@ -248,8 +255,6 @@ impl Lists for SlicedLists {
             h,
             self.at + 2 * b,
             self.room(b),
-            self.cap,
-            self.n,
             id,
             axis[0],
             axis[1],
@@ -261,8 +266,6 @@ impl Lists for SlicedLists {
             h,
             self.at + 2 * b,
             self.room(b),
-            self.cap,
-            self.n,
             id,
             self.alive,
             self.axes,
@@ -287,8 +290,6 @@ impl Lists for SlicedLists {
         Ok(sliced::sliced::scan(
             h,
             self.room(b),
-            self.cap,
-            self.n,
             len,
             after,
             axis[0],

@@ -14,7 +14,7 @@ mark-requires c =
     λ p d. omega (
       arith,
       c.prepare.ensures.long,
-      mask_in c.args.h.now c.args.base c.args.cap c.args.n c.args.len (2 * p + 0) c.requires.0 c.requires.1 (omega (arith, place_lt c.args.n c.args.x p c.requires.2 d)),
+      mask_in c.args.h.now c.args.room.base c.args.room.cap c.args.room.n c.args.len (2 * p + 0) c.requires.0 c.requires.1 (omega (arith, place_lt c.args.room.n c.args.x p c.requires.2 d)),
     )
 
 pub mark-requires-2 : goal.mark-requires-2
@@ -24,24 +24,12 @@ mark-requires-2 c =
       arith,
       c.prepare.ensures.long,
       c.mark.ensures.long,
-      mask_in c.args.h.now c.args.base c.args.cap c.args.n c.args.len (2 * p + 1) c.requires.0 c.requires.1 (omega (arith, place_lt c.args.n c.args.z p c.requires.3 d)),
+      mask_in c.args.h.now c.args.room.base c.args.room.cap c.args.room.n c.args.len (2 * p + 1) c.requires.0 c.requires.1 (omega (arith, place_lt c.args.room.n c.args.z p c.requires.3 d)),
     )
-
-pub offset_bounds-h-live : goal.offset_bounds-h-live
-unfolding words
-offset_bounds-h-live c = search rules
-
-pub bounds-h-live : goal.bounds-h-live
-unfolding words
-bounds-h-live c = search rules
-
-pub bounds-h-live-2 : goal.bounds-h-live-2
-unfolding words
-bounds-h-live-2 c = search rules
 
 pub returns : goal.returns
 unfolding words
 returns c =
-    Appended-by c.args.h.now c.args.base c.args.cap c.args.n c.args.len c.args.id c.args.x c.args.z ((1 * 2 ^ (c.args.len % 64)) % 2 ^ 64)
+    rw c.live-live.ensures (Appended-by c.args.h.now c.args.room.base c.args.room.cap c.args.room.n c.args.len c.args.id c.args.x c.args.z ((1 * 2 ^ (c.args.len % 64)) % 2 ^ 64)
     c.prepare.new.h c.mark.new.h c.mark-2.new.h c.requires.0 c.requires.1 c.requires.2 c.requires.3
-    (bit_is 64 (c.args.len % 64) (omega arith)) c.prepare.ensures c.mark.ensures c.mark-2.ensures
+    (bit_is 64 (c.args.len % 64) (omega arith)) c.prepare.ensures (rw c.masks-masks.ensures at c.mark.ensures) (rw c.masks-masks.ensures at c.mark-2.ensures))

@@ -9,6 +9,6 @@ use Rattle.sliced.proofs.sliced.push.Goals as goal
 pub returns-clause-done : goal.returns-clause-done
 returns-clause-done c = λ m d r l. (
   refl,
-  pushed_to c.args.h.now c.args.at c.args.base c.args.cap c.args.n (fresh c.args.id c.args.x c.args.z) c.append.new.h m d (get_or c.args.h.now c.args.at 0)
+  pushed_to c.args.h.now c.args.at c.args.room.base c.args.room.cap c.args.room.n (fresh c.args.id c.args.x c.args.z) c.append.new.h m d (get_or c.args.h.now c.args.at 0)
       c.requires.0.counts (omega (arith, c.requires.0.fits)) r refl c.append.ensures,
 )
