@@ -115,6 +115,7 @@ pub fn push(
 // ---- a death
 
 // Keeps the entry of event `id` at place k, where the event is live; the answer is where the next entry that is kept goes.
+#[tactic(auto, unfolding(model::specs::Events::words))]
 fn keep(
     h: &mut [u64],
     room: ListRoom,
@@ -145,6 +146,7 @@ fn keep(
 }
 
 // Whether the events of the 64 numbers from `at` on are live.
+#[tactic(auto, unfolding(model::specs::Events::words))]
 fn all_live(h: &[u64], at: usize, alive: usize, events: usize) -> bool
     requires { (at + 64 ≤ length h.now) × (alive + words events ≤ at) × (events ≤ at) }
     ensures { IsTrue result → (j : ℕ) → j < 64 → is_live h.now alive (get_or h.now (at + j) 0) ≡ true }
@@ -161,13 +163,7 @@ fn all_live(h: &[u64], at: usize, alive: usize, events: usize) -> bool
 
 // How many blocks at the front are full of live entries. A rebuild leaves these as they are: what merges away is mostly recent.
 #[tactic(auto, unfolding(model::specs::Events::words))]
-fn settled(
-    h: &[u64],
-    room: ListRoom,
-    len: usize,
-    alive: usize,
-    events: usize,
-) -> usize
+fn settled(h: &[u64], room: ListRoom, len: usize, alive: usize, events: usize) -> usize
     requires { Spread h.now room.base room.cap room.n × (len ≤ room.cap) × (alive + words events ≤ room.base) × (events ≤ room.base) }
     ensures { Settled h.now room.base room.cap room.n len alive result }
 {
@@ -259,6 +255,7 @@ fn cost(live: u64) -> u32
 }
 
 // One block: its live entries are paid for, and then those in first are tested against word, the ones that anticommute.
+#[tactic(auto, unfolding(crate::specs::Steps::paid))]
 fn visit(live: u64, word: u64, first: u64, left: Budget) -> Scan
     ensures { result ≡ visited live word first left }
 {

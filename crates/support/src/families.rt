@@ -251,14 +251,7 @@ impl Lists for SlicedLists {
     ghost scans = { λ s b events axis sig after left h r. SlicedScans s.at s.base s.cap s.n b (slice_index axis 0) (slice_index axis 1) after left h r };
 
     fn push(&self, h: &mut [u64], b: usize, id: u64, axis: &[u64]) -> Result<(), Corrupt> {
-        sliced::sliced::push(
-            h,
-            self.at + 2 * b,
-            self.room(b),
-            id,
-            axis[0],
-            axis[1],
-        )
+        sliced::sliced::push(h, self.at + 2 * b, self.room(b), id, axis[0], axis[1])
     }
 
     fn kill(&self, h: &mut [u64], b: usize, id: u64, events: usize) -> Result<(), Corrupt> {
@@ -287,14 +280,6 @@ impl Lists for SlicedLists {
         if self.cap < len {
             return Err(Corrupt);
         }
-        Ok(sliced::sliced::scan(
-            h,
-            self.room(b),
-            len,
-            after,
-            axis[0],
-            axis[1],
-            budget,
-        ))
+        Ok(sliced::sliced::scan(h, self.room(b), len, after, axis[0], axis[1], budget))
     }
 }

@@ -1,7 +1,6 @@
 -- `lists::scalar::note_dead` meets its contract. Assumes nothing.
-use mathlib.Core.Path.{refl, ap}
-use Rattle.std.specs.Prelude.{is_err}
-use Rattle.lists.proofs.ScalarLaws.{noted_kept, noted_dropped, drop_not_bad}
+use mathlib.Core.Path.{refl}
+use Rattle.lists.proofs.ScalarLaws.{noted_kept, noted_dropped}
 use native.Mathlib.Omega.{arith}
 use Rattle.lists.proofs.scalar.note_dead.Goals as goal
 
@@ -10,11 +9,6 @@ returns-then-dead-len-clause-done c =
     let a = c.args in
     λ ids d m l f.
     (refl, noted_kept a.h.now a.at a.base a.cap a.alive ids d c.requires.0 m (omega arith))
-
-pub returns-in_err-k-clause-done : goal.returns-in_err-k-clause-done
-returns-in_err-k-clause-done c =
-    let a = c.args in
-    λ ids d m l f. drop_not_bad a.h.now a.at a.base a.cap a.alive ids d c.requires.0 m a.events f c.drop_dead.new.h c.drop_dead.result c.drop_dead.ensures (ap is_err c.in_err-k.was)
 
 pub returns-clause-done : goal.returns-clause-done
 returns-clause-done c =

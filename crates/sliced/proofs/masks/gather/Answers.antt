@@ -1,28 +1,16 @@
 -- `sliced::masks::gather` meets its contract: the word of each block xor what is gathered over the digits left to do is the whole. Assumes nothing.
-use mathlib.Core.Path.{sym, ap, ◌∙◌}
+use mathlib.Core.Path.{sym, ◌∙◌}
 use Prim.Native.Nat.{◌*◌, ◌<◌}
 use native.Mathlib.Omega.{arith}
 use lib.ListN.{get_or}
-use Rattle.pauli.specs.declared.bits.SetBits.{SetBits}
-use Rattle.sliced.proofs.MaskLaws.{Gathering-none, Gathering-more, Mixed-none, Mixed-more, gather_end, place_lt, mask_lt}
+use Rattle.sliced.proofs.MaskLaws.{Gathering-more, gather_end, place_lt, mask_lt}
 use Rattle.sliced.proofs.masks.gather.Goals as goal
-
-pub loop-p-init : goal.loop-p-init
-loop-p-init g c =
-    let a = c.args in
-    Gathering-none a.masks.now a.n a.odd a.set g.row.B _ (ap (λ (s : SetBits). s.left) c.into_iter-p-iterator.ensures.into_iter_gives ∙ c.bits-p-items.ensures)
-
-pub loop-b-init : goal.loop-b-init
-loop-b-init g c = Mixed-none _ _ _ c.loop-p.invariant.long
 
 pub bounds-masks-b : goal.bounds-masks-b
 bounds-masks-b g c =
     let a = c.args in
     let lp : c.in-Some.p < a.n = place_lt a.n c.loop-p.p-iterator.left c.in-Some.p (omega (arith, c.loop-p.invariant.less)) c.in-Some.ensures.steps.0.one in
     omega (arith, mask_lt g.row.B c.loop-b.b a.n c.in-Some.p a.odd c.loop-b-test.true lp c.requires.2)
-
-pub loop-b-preserved : goal.loop-b-preserved
-loop-b-preserved g c = Mixed-more _ _ _ _ _ c.loop-b.invariant c.loop-b-test.true
 
 pub loop-p-preserved : goal.loop-p-preserved
 loop-p-preserved g c =

@@ -3,15 +3,10 @@ use mathlib.Core.Path.{◌≡◌, sym, ◌∙◌}
 use mathlib.Core.Bool.{true}
 use Prim.Native.Nat.{◌+◌, ◌/◌}
 use lib.ListN.{get_or}
-use Rattle.model.specs.Events.{words}
 use Rattle.lists.specs.Lists.{is_live}
 use Rattle.sliced.proofs.RebuildLaws.{live_part, one_more}
-use borrow.Author.Rules.{rules}
 use native.Mathlib.Omega.{arith}
 use Rattle.sliced.proofs.sliced.all_live.Goals as goal
-
-pub slice_bounds-contains-end : goal.slice_bounds-contains-end
-slice_bounds-contains-end c = unfold words in search rules
 
 pub loop-j-preserved : goal.loop-j-preserved
 loop-j-preserved c =

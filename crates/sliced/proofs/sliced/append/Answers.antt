@@ -5,7 +5,6 @@ use native.Mathlib.Omega.{arith}
 use Rattle.pauli.proofs.Digits.{bit_is}
 use Rattle.sliced.proofs.MaskLaws.{place_lt}
 use Rattle.sliced.proofs.BlockLaws.{mask_in, Appended-by}
-use borrow.Author.Rules.{rules}
 use Rattle.sliced.proofs.sliced.append.Goals as goal
 
 pub mark-requires : goal.mark-requires

@@ -3,22 +3,15 @@ use mathlib.Core.Path.{◌≡◌, sym, ◌∙◌}
 use mathlib.Core.Bool.{true}
 use Prim.Native.Nat.{◌+◌, ◌*◌, ◌/◌}
 use lib.ListN.{get_or}
-use Rattle.model.specs.Events.{words}
 use Rattle.lists.specs.Lists.{is_live}
 use Rattle.sliced.proofs.RebuildLaws.{live_part, Stepped-wide, Stepped-live, Stepped-dead, small_x, small_z}
 use native.Mathlib.Omega.{arith}
-use borrow.Author.Rules.{rules}
 use Rattle.sliced.proofs.sliced.keep.Goals as goal
 use Rattle.sliced.proofs.sliced.keep.Goals.{Else-not-contains}
 
 alive-one : (c : Else-not-contains) → is_live c.args.h.now c.args.alive c.args.id ≡ true
 alive-one c =
     sym (live_part c.args.h.now c.args.alive ((c.args.events + 63) / 64) c.args.id c.contains.result (omega arith) c.contains.ensures) ∙ c.if-not-contains.false
-
-pub slice_bounds-contains-end : goal.slice_bounds-contains-end
-unfolding words
-slice_bounds-contains-end c =
-    search rules
 
 pub returns-then-x-z-ne0 : goal.returns-then-x-z-ne0
 returns-then-x-z-ne0 c =

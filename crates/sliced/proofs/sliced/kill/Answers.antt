@@ -1,9 +1,8 @@
 -- `sliced::sliced::kill` meets its contract: the entry is marked dead in place, or the list is rebuilt. Assumes nothing.
-use mathlib.Core.Path.{refl, ap}
-use Rattle.std.specs.Prelude.{is_err}
+use mathlib.Core.Path.{refl}
 use Prim.Native.Nat.{◌+◌}
 use lib.ListN.{get_or}
-use Rattle.sliced.proofs.SliceLaws.{Found-is, not_lost, marked_to, Rebuilt-to, Rebuilt-not_bad}
+use Rattle.sliced.proofs.SliceLaws.{Found-is, not_lost, marked_to, Rebuilt-to}
 use Rattle.sliced.proofs.sliced.kill.Goals as goal
 
 pub returns-in_default-clause-done : goal.returns-in_default-clause-done
@@ -18,6 +17,3 @@ returns-then-dead-len-clause-done c = λ m d pos r ld rise src lp q. (
 
 pub returns-clause-done : goal.returns-clause-done
 returns-clause-done c = λ m d pos r ld rise src lp q. (refl, Rebuilt-to c.args.h.now c.args.at c.args.room.base c.args.room.cap c.args.room.n c.args.alive c.args.axes c.args.events m d pos (get_or c.args.h.now c.args.at 0) (get_or c.args.h.now (c.args.at + 1) 0) c.requires.0.fits c.requires.0.counts r refl refl c.rebuild.result c.in_ok-k.k c.rebuild.new.h c.if-dead-len.false c.in_ok-k.was src c.rebuild.ensures)
-
-pub returns-in_err-k-clause-done : goal.returns-in_err-k-clause-done
-returns-in_err-k-clause-done c = λ m d pos r ld rise src lp q. Rebuilt-not_bad c.args.h.now c.args.at c.args.room.base c.args.room.cap c.args.room.n c.args.alive c.args.axes c.args.events m d pos (get_or c.args.h.now c.args.at 0) (get_or c.args.h.now (c.args.at + 1) 0) c.requires.0.fits c.requires.0.counts r refl refl c.rebuild.result c.rebuild.new.h (ap is_err c.in_err-k.was) src c.rebuild.ensures

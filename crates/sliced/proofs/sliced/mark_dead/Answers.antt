@@ -1,7 +1,6 @@
 -- `sliced::sliced::mark_dead` meets its contract: one live digit is cleared. Assumes nothing.
 use Rattle.model.specs.Events.{words}
 use Rattle.sliced.proofs.BlockLaws.{marked_dead}
-use borrow.Author.Rules.{rules}
 use Rattle.sliced.proofs.sliced.mark_dead.Goals as goal
 
 pub returns : goal.returns

@@ -2,7 +2,6 @@
 use mathlib.Core.Path.{◌≡◌, refl, sym, ap, ap₂, ◌∙◌, subst}
 use Prim.Native.Nat.{ℕ, ◌+◌, ◌-◌, ◌*◌, ◌^◌, ◌≤◌, ◌<◌}
 use native.Mathlib.Omega.{arith}
-use borrow.Author.Rules.{rules}
 use lib.ListN.{length, get_or}
 use Rattle.model.specs.Events.{words}
 use Rattle.lists.specs.declared.budget.Scan.{Scan}
@@ -106,9 +105,6 @@ loop-b-preserved c =
     let e = (goal.at.loop-b-preserved c).After-visit_two in
     let l = (goal.at.loop-b-preserved c).At-loop-b in
     (omega arith, first_later c.first_past-start.result (c.loop-b.b + 2) (omega arith), omega arith, subst (Rest l (c.loop-b.b + 2)) c.in-Clear.is (two e))
-
-pub slice_bounds-anticommuting-end-then-b-used : goal.slice_bounds-anticommuting-end-then-b-used
-slice_bounds-anticommuting-end-then-b-used c = omega (arith, one-fits (goal.at.slice_bounds-anticommuting-end-then-b-used c).Then-b-used)
 
 pub returns-then-b-used : goal.returns-then-b-used
 unfolding words and_then

@@ -1,7 +1,6 @@
 -- `sliced::sliced::settled` meets its contract: the blocks before b are settled. Assumes nothing.
 use Rattle.model.specs.Events.{words}
 use Rattle.sliced.proofs.RebuildLaws.{Settled-more}
-use borrow.Author.Rules.{rules}
 use Rattle.sliced.proofs.sliced.settled.Goals as goal
 
 pub loop-b-preserved : goal.loop-b-preserved

@@ -1,15 +1,8 @@
 -- `support::families::kill` meets its contract: the calls done and those left are the whole. Assumes nothing.
-use mathlib.Core.Path.{refl, ap, ◌∙◌}
+use mathlib.Core.Path.{ap, ◌∙◌}
 use Rattle.std.specs.Prelude.{is_ok, is_err}
-use Rattle.pauli.specs.declared.bits.SetBits.{SetBits}
-use Rattle.support.proofs.RunLaws.{Going-none, Going-more, Going-stops, Going-all}
+use Rattle.support.proofs.RunLaws.{Going-more, Going-stops, Going-all}
 use Rattle.support.proofs.families.kill.Goals as goal
-
-pub loop-b-init : goal.loop-b-init
-loop-b-init g c = (refl, Going-none _ _ _ _ (ap (λ (s : SetBits). s.left) c.into_iter-b-iterator.ensures.into_iter_gives ∙ c.bits-b-items.ensures))
-
-pub kill-requires : goal.kill-requires
-kill-requires g c = (c.requires.room _ c.loop-b.invariant.0, c.requires.there _ c.in-Some.ensures.steps.0.place (c.loop-b.invariant.1.within _ c.in-Some.ensures.steps.0.one))
 
 pub loop-b-preserved : goal.loop-b-preserved
 loop-b-preserved g c = (

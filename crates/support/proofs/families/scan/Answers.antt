@@ -1,19 +1,10 @@
 -- `support::families::scan` meets its contract: the scans done and those left, with the steps left, are the whole. Assumes nothing.
 use mathlib.Core.Path.{ap, ◌∙◌}
 use Rattle.std.specs.Prelude.{Ok, is_err}
-use Rattle.pauli.specs.declared.bits.SetBits.{SetBits}
 use Rattle.lists.specs.declared.budget.Scan.TheVariants.{Clear}
 use Rattle.lists.proofs.ScanLaws.{same_answer, answer_not}
-use Rattle.support.proofs.RunLaws.{Scanning-none, Scanning-more, Scanning-ends, Scanning-all, same_error}
+use Rattle.support.proofs.RunLaws.{Scanning-more, Scanning-ends, Scanning-all, same_error}
 use Rattle.support.proofs.families.scan.Goals as goal
-
-pub loop-b-init : goal.loop-b-init
-loop-b-init g c = Scanning-none _ _ _ _ (ap (λ (s : SetBits). s.left) c.into_iter-b-iterator.ensures.into_iter_gives ∙ c.bits-b-items.ensures)
-
-pub scan-requires : goal.scan-requires
-scan-requires g c =
-    let low = c.in-Some.ensures.steps.0 in
-    (c.requires.room, c.requires.there _ low.place (c.loop-b.invariant.within _ low.one), low.place)
 
 pub loop-b-preserved : goal.loop-b-preserved
 loop-b-preserved g c =
