@@ -13,7 +13,7 @@ use Rattle.store.specs.declared.answers.Reading.TheVariants as reading
 use Rattle.store.specs.declared.answers.Sight.{Sight}
 use Rattle.store.specs.declared.answers.Sight.TheVariants as sight
 use Rattle.store.specs.Promises.{number, told_read, told_look}
-use Rattle.host.specs.Host.{sign_word, bit, first_of, words_of, reading_words, look_words}
+use Rattle.host.specs.Host.{sign_word, bit, words_of, reading_words, look_words}
 use Rattle.host.proofs.Written.{three, whole}
 
 -- ---- the words of a look and of a read

@@ -1,11 +1,10 @@
 -- What a number names, and what a promise about it comes to. Assumes nothing.
-use mathlib.Core.Path.{◌≡◌, sym, subst}
-use mathlib.Core.List.{List, map}
+use mathlib.Core.Path.{◌≡◌, subst}
+use mathlib.Core.List.{List}
 use Prim.Native.Nat.{ℕ, ◌≤◌, ◌<◌}
 use native.Mathlib.Omega.{arith}
-use lib.ListN.{length, length-map, get_or-eq_default}
-use Rattle.pauli.proofs.Nots.{Nots, least}
-use Rattle.host.specs.Numbers.{Meant, known, unknown, named}
+use lib.ListN.{length}
+use Rattle.host.specs.Numbers.{Meant, known, unknown}
 use Rattle.host.specs.Host.{Lent, Named}
 
 -- where the number names something, the promise is of that
@@ -16,11 +15,6 @@ meant {A = A} m a P U e h = subst (λ (x : Meant A). Named x P U) e h
 pub unnamed : {A : Type 0} (m : Meant A) (P : A → Type 0) (U : Type 0) → unknown ≡ m → U → Named m P U
 unfolding Named
 unnamed {A = A} m P U e h = subst (λ (x : Meant A). Named x P U) e h
-
--- a number that is none of the first n has no place in a list of n
-pub past : {A : Type 0} (xs : List A) (k : ℕ) → Nots k 0 (length xs) → unknown ≡ named xs k
-unfolding named
-past xs k h = sym (get_or-eq_default (map known xs) unknown (omega (arith, length-map xs known, least k 0 (length xs) (omega arith) h)))
 
 -- ---- an answer that takes so many words
 

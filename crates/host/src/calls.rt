@@ -8,9 +8,12 @@ ghost use Rattle.model.specs.Calls.{call_gate, call_turn, call_record, call_meas
 ghost use Rattle.host.specs.Numbers.{named, gates, kinds, forms};
 ghost use Rattle.host.specs.Host.{needed, Lent, Named, Opened, Done, Recorded, Asked};
 
-use super::named::{NamedForm, NamedGate, NamedKind, form_named, gate_named, kind_named};
+use super::named::{form_named, gate_named, kind_named};
 use super::sizes::needed_words;
 use super::words::{first_of, number_of, open_number_of, reading_into, sight_into};
+
+// The answer to a number that names no gate or kind.
+const UNKNOWN: u32 = 10;
 
 // ---- opening
 
@@ -20,8 +23,8 @@ pub extern "C" fn tillbonnet_need(n: usize, events: usize, form: u64) -> usize
     ensures { Named (named forms form) (λ (f : Form). result ≡ needed n events f) (result ≡ 0) }
 {
     match form_named(form) {
-        NamedForm::Known(f) => needed_words(n, events, f),
-        NamedForm::Unknown => 0,
+        Some(f) => needed_words(n, events, f),
+        None => 0,
     }
 }
 
@@ -37,8 +40,8 @@ pub extern "C" fn tillbonnet_open(
     ensures { Named (named forms form) (λ (f : Form). Opened (opening n events steps f labels.now (length s.old)) s.old result s.new) ((result ≡ 1) × (s.new ≡ s.old)) }
 {
     match form_named(form) {
-        NamedForm::Known(f) => open_number_of(partner::calls::open(s, n, events, steps, f, labels)),
-        NamedForm::Unknown => 1,
+        Some(f) => open_number_of(partner::calls::open(s, n, events, steps, f, labels)),
+        None => 1,
     }
 }
 
@@ -49,8 +52,8 @@ pub extern "C" fn tillbonnet_gate(s: &mut [u64], gate: u64, a: usize, b: usize) 
     ensures { Named (named (gates a b) gate) (λ (g : model.Gate). Done (call_gate g) s.old result s.new) ((result ≡ 10) × (s.new ≡ s.old)) }
 {
     match gate_named(gate, a, b) {
-        NamedGate::Known(g) => number_of(partner::calls::gate(s, g)),
-        NamedGate::Unknown => 10,
+        Some(g) => number_of(partner::calls::gate(s, g)),
+        None => UNKNOWN,
     }
 }
 
@@ -59,8 +62,8 @@ pub extern "C" fn tillbonnet_turn(s: &mut [u64], kind: u64, k: u64, q: usize) ->
     ensures { Named (named kinds kind) (λ (d : model.Kind). Done (call_turn d k q) s.old result s.new) ((result ≡ 10) × (s.new ≡ s.old)) }
 {
     match kind_named(kind) {
-        NamedKind::Known(d) => number_of(partner::calls::turn(s, d, k, q)),
-        NamedKind::Unknown => 10,
+        Some(d) => number_of(partner::calls::turn(s, d, k, q)),
+        None => UNKNOWN,
     }
 }
 
@@ -77,8 +80,8 @@ pub extern "C" fn tillbonnet_record(
     ensures { Named (named kinds kind) (λ (d : model.Kind). Recorded (call_record d q tag) s.old first.old result s.new first.new) ((result ≡ 10) × (s.new ≡ s.old) × (first.new ≡ first.old)) }
 {
     match kind_named(kind) {
-        NamedKind::Known(d) => first_of(partner::calls::record(s, d, q, tag), first),
-        NamedKind::Unknown => 10,
+        Some(d) => first_of(partner::calls::record(s, d, q, tag), first),
+        None => UNKNOWN,
     }
 }
 
@@ -159,7 +162,7 @@ pub extern "C" fn tillbonnet_look(s: &[u64], kind: u64, q: usize, says: &mut [u6
         return 3;
     }
     match kind_named(kind) {
-        NamedKind::Known(d) => sight_into(partner::calls::look(s, d, q), says),
-        NamedKind::Unknown => 10,
+        Some(d) => sight_into(partner::calls::look(s, d, q), says),
+        None => UNKNOWN,
     }
 }

@@ -7,61 +7,47 @@ use frame::axes::Kind;
 use gating::gates::Gate;
 use history::forms::Form;
 
-#[derive(Clone, Copy)]
-pub enum NamedGate {
-    Known(Gate),
-    Unknown,
-}
-
-#[derive(Clone, Copy)]
-pub enum NamedKind {
-    Known(Kind),
-    Unknown,
-}
-
-#[derive(Clone, Copy)]
-pub enum NamedForm {
-    Known(Form),
-    Unknown,
-}
-
-pub fn gate_named(g: u64, a: usize, b: usize) -> NamedGate
+#[tactic(auto, unfolding(crate::specs::Numbers::named, crate::specs::Named::gate_named, gating::specs::Gates::gate_of))]
+pub fn gate_named(g: u64, a: usize, b: usize) -> Option<Gate>
     ensures { gate_named result ≡ named (gates a b) g }
 {
-    match g {
-        0 => NamedGate::Known(Gate::H(a)),
-        1 => NamedGate::Known(Gate::X(a)),
-        2 => NamedGate::Known(Gate::Y(a)),
-        3 => NamedGate::Known(Gate::Z(a)),
-        4 => NamedGate::Known(Gate::S(a)),
-        5 => NamedGate::Known(Gate::Sdg(a)),
-        6 => NamedGate::Known(Gate::Sx(a)),
-        7 => NamedGate::Known(Gate::Cnot(a, b)),
-        8 => NamedGate::Known(Gate::Cz(a, b)),
-        9 => NamedGate::Known(Gate::Cy(a, b)),
-        10 => NamedGate::Known(Gate::Swap(a, b)),
-        _ => NamedGate::Unknown,
-    }
+    let gate = match g {
+        0 => Gate::H(a),
+        1 => Gate::X(a),
+        2 => Gate::Y(a),
+        3 => Gate::Z(a),
+        4 => Gate::S(a),
+        5 => Gate::Sdg(a),
+        6 => Gate::Sx(a),
+        7 => Gate::Cnot(a, b),
+        8 => Gate::Cz(a, b),
+        9 => Gate::Cy(a, b),
+        10 => Gate::Swap(a, b),
+        _ => return None,
+    };
+    Some(gate)
 }
 
-pub fn kind_named(kind: u64) -> NamedKind
+#[tactic(auto, unfolding(crate::specs::Numbers::named, crate::specs::Named::kind_named, frame::specs::Axes::kind_of))]
+pub fn kind_named(kind: u64) -> Option<Kind>
     ensures { kind_named result ≡ named kinds kind }
 {
     match kind {
-        0 => NamedKind::Known(Kind::X),
-        1 => NamedKind::Known(Kind::Y),
-        2 => NamedKind::Known(Kind::Z),
-        3 => NamedKind::Known(Kind::P),
-        _ => NamedKind::Unknown,
+        0 => Some(Kind::X),
+        1 => Some(Kind::Y),
+        2 => Some(Kind::Z),
+        3 => Some(Kind::P),
+        _ => None,
     }
 }
 
-pub fn form_named(form: u64) -> NamedForm
+#[tactic(auto, unfolding(crate::specs::Numbers::named, crate::specs::Named::form_named, history::specs::Sizes::form_of))]
+pub fn form_named(form: u64) -> Option<Form>
     ensures { form_named result ≡ named forms form }
 {
     match form {
-        0 => NamedForm::Known(Form::Scalar),
-        1 => NamedForm::Known(Form::Sliced),
-        _ => NamedForm::Unknown,
+        0 => Some(Form::Scalar),
+        1 => Some(Form::Sliced),
+        _ => None,
     }
 }

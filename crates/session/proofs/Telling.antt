@@ -27,7 +27,6 @@ use Rattle.store.specs.Promises.{number, told, told_open, told_look, Answers, Me
 use Rattle.std.specs.Prelude.{Option, Some, None, Result, Ok, Err}
 use Rattle.store.specs.declared.refusals.Refusal.{Refusal}
 use Rattle.store.specs.declared.refusals.OpenError.{OpenError}
-use Rattle.store.specs.Refusals.{code_of, open_code_of}
 use Rattle.store.specs.declared.answers.Sight.{Sight}
 use Rattle.store.proofs.LentLaws.{Held-Good}
 use Rattle.model.proofs.Stay.{record_given}

@@ -10,7 +10,7 @@ ghost use Rattle.session.specs.Session.{settled, begun, answered_by, operated, o
 ghost use Rattle.session.specs.Desk.{Near, Within, records_of, kills_of, Counts, Tells, Does};
 
 use super::header::take_line;
-use super::stages::{Ran, Stage};
+use super::stages::{MAX_EVENTS, Ran, Stage};
 use frame::axes::Kind;
 use history::forms::Form;
 use partner::calls::{Call, apply, look, open};
@@ -69,15 +69,9 @@ fn records(c: Call) -> u64
     ensures { result ≡ records_of c }
 {
     match c {
-        Call::Record {
-            kind: _,
-            q: _,
-            tag: _,
-        } => 1,
-        Call::Measure(_) => 1,
+        Call::Record { .. } | Call::Measure(_) => 1,
         Call::Reset(_) => 2,
-        Call::Ccx(_, _, _) => 7,
-        Call::Ccz(_, _, _) => 7,
+        Call::Ccx(..) | Call::Ccz(..) => 7,
         _ => 0,
     }
 }
@@ -86,28 +80,17 @@ fn records(c: Call) -> u64
 fn kills(c: Call) -> u64
     ensures { result ≡ kills_of c }
 {
-    match c {
-        Call::Kill(_) => 1,
-        _ => 0,
-    }
+    u64::from(matches!(c, Call::Kill(_)))
 }
 
 // The counts of the end line after a call and its answer: "events recorded less events killed". On a store of this program there are at most 48 events;
-// the two tests keep the sums in 64 bits on any other.
+// the test keeps the sums in 64 bits on any other.
 fn count(c: Call, a: Result<Option<usize>, Refusal>, events: u64, live: u64) -> Stage
     ensures { Counts c (promised a) events live result }
 {
-    if events > 48 {
-        return Stage::Running {
-            events: events,
-            live: live,
-        };
-    }
-    if live > events {
-        return Stage::Running {
-            events: events,
-            live: live,
-        };
+    let same = Stage::Running { events, live };
+    if events > MAX_EVENTS as u64 || live > events {
+        return same;
     }
     match a {
         Ok(Some(_)) => {
@@ -117,25 +100,12 @@ fn count(c: Call, a: Result<Option<usize>, Refusal>, events: u64, live: u64) -> 
                 live: live + k,
             }
         }
-        Ok(None) => {
-            let left = less(live, kills(c));
-            Stage::Running {
-                events: events,
-                live: left,
-            }
-        }
-        Err(_) => Stage::Running {
-            events: events,
-            live: live,
+        Ok(None) => Stage::Running {
+            events,
+            live: live.saturating_sub(kills(c)),
         },
+        Err(_) => same,
     }
-}
-
-// a - b, or 0.
-fn less(a: u64, b: u64) -> u64
-    ensures { result ≡ a - b }
-{
-    if b <= a { a - b } else { 0 }
 }
 
 // A call that writes.
@@ -171,13 +141,7 @@ fn do_look(
 {
     let s = look(store, kind, q);
     let n = write_sight(line, s, out);
-    Ran::On(
-        Stage::Running {
-            events: events,
-            live: live,
-        },
-        n,
-    )
+    Ran::On(Stage::Running { events, live }, n)
 }
 
 // A line once the store is open.

@@ -4,10 +4,10 @@ use Rattle.host.proofs.Naming.{meant, unnamed}
 use mathlib.Core.Path.{refl, sym, ap, ◌∙◌}
 use Rattle.host.proofs.calls.tillbonnet_need.Goals as goal
 
-pub returns-in-Known : goal.returns-in-Known
+pub returns-in-Some : goal.returns-in-Some
 unfolding form_named
-returns-in-Known c = meant _ _ _ _ (sym (ap form_named c.in-Known.is) ∙ c.form_named.ensures) c.needed_words.ensures
+returns-in-Some c = meant _ _ _ _ (sym (ap form_named c.in-Some.is) ∙ c.form_named.ensures) c.needed_words.ensures
 
-pub returns-in-Unknown : goal.returns-in-Unknown
+pub returns-in-None : goal.returns-in-None
 unfolding form_named
-returns-in-Unknown c = unnamed _ _ _ (sym (ap form_named c.in-Unknown.is) ∙ c.form_named.ensures) refl
+returns-in-None c = unnamed _ _ _ (sym (ap form_named c.in-None.is) ∙ c.form_named.ensures) refl

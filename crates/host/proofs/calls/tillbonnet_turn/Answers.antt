@@ -5,10 +5,10 @@ use Rattle.host.proofs.Naming.{meant, unnamed}
 use mathlib.Core.Path.{refl, sym, ap, ◌∙◌}
 use Rattle.host.proofs.calls.tillbonnet_turn.Goals as goal
 
-pub returns-in-Known : goal.returns-in-Known
+pub returns-in-Some : goal.returns-in-Some
 unfolding kind_named
-returns-in-Known c = meant _ _ _ _ (sym (ap kind_named c.in-Known.is) ∙ c.kind_named.ensures) (record { reply = told_done c.turn.result; meets = c.turn.ensures; number_is = c.number_of.ensures })
+returns-in-Some c = meant _ _ _ _ (sym (ap kind_named c.in-Some.is) ∙ c.kind_named.ensures) (record { reply = told_done c.turn.result; meets = c.turn.ensures; number_is = c.number_of.ensures })
 
-pub returns-in-Unknown : goal.returns-in-Unknown
+pub returns-in-None : goal.returns-in-None
 unfolding kind_named
-returns-in-Unknown c = unnamed _ _ _ (sym (ap kind_named c.in-Unknown.is) ∙ c.kind_named.ensures) (refl, refl)
+returns-in-None c = unnamed _ _ _ (sym (ap kind_named c.in-None.is) ∙ c.kind_named.ensures) (refl, refl)
