@@ -3,3 +3,4 @@ pub mod Refusals
 pub mod Stores
 pub mod Promises
 pub mod Checks
+pub mod Held

@@ -1,0 +1,3 @@
+-- The laws of `typed`.
+pub mod Laws
+pub mod OpenLaws
