@@ -31,7 +31,7 @@ fn first_after(ids: &[u64], after: u64) -> usize
 }
 
 // A place that is not past the first number of at least `id`. Rotations usually merge away soon after they are recorded, so it gallops
-// back from the end, by steps that double (the Rust's `SlicedList::kill`).
+// back from the end, by steps that double (the Rust's `SlicedList::kill`); no `for`, since neither the step nor the end is known before.
 fn gallop(ids: &[u64], id: u64) -> usize
     requires { 0 < length ids.now }
     ensures within { result < length ids.now }

@@ -110,30 +110,36 @@ pub fn note_dead(
 
 // ---- a scan
 
+// Where the words of `count` events stand: a signature each from `sigs` on, and l words of X and l of Z each from `axes` on.
+#[derive(Clone, Copy, Debug, PartialEq, Eq)]
+pub struct EventWords {
+    pub sigs: usize,
+    pub axes: usize,
+    pub l: usize,
+    pub count: usize,
+}
+
 // Whether the event `id`, in list `bit`, is to be tested there and anticommutes with the axis. `wanted` are the bits of the axis's signature
 // up to `bit`: the event is tested where that one, `this`, is the first that it shares. A dead event shares none.
 fn meets(
     h: &[u64],
-    sigs: usize,
-    axes: usize,
-    l: usize,
-    events: usize,
+    events: EventWords,
     axis: &[u64],
     wanted: u64,
     this: u64,
     id: usize,
 ) -> Result<bool, Corrupt>
-    requires { (sigs + events ≤ length h.now) × (axes + events * (2 * l) ≤ length h.now) × (length axis.now ≡ 2 * l) }
-    ensures { Meets h.now sigs axes l events axis.now wanted this id result }
+    requires { (events.sigs + events.count ≤ length h.now) × (events.axes + events.count * (2 * events.l) ≤ length h.now) × (length axis.now ≡ 2 * events.l) }
+    ensures { Meets h.now events.sigs events.axes events.l events.count axis.now wanted this id result }
 {
-    if events <= id {
+    if events.count <= id {
         return Err(Corrupt);
     }
-    if h[sigs + id] & wanted != this {
+    if h[events.sigs + id] & wanted != this {
         return Ok(false);
     }
-    let words = 2 * l;
-    let from = axes + id * words;
+    let words = 2 * events.l;
+    let from = events.axes + id * words;
     Ok(anticommutes(&h[from..from + words], axis))
 }
 
@@ -142,18 +148,15 @@ pub fn scan(
     h: &[u64],
     base: usize,
     len: usize,
-    sigs: usize,
-    axes: usize,
-    l: usize,
-    events: usize,
+    events: EventWords,
     axis: &[u64],
     sig: u64,
     bit: usize,
     after: usize,
     budget: Budget,
 ) -> Result<Scan, Corrupt>
-    requires { (base + len ≤ length h.now) × (sigs + events ≤ length h.now) × (axes + events * (2 * l) ≤ length h.now) × (length axis.now ≡ 2 * l) × (bit < 64) }
-    ensures { (s : State) → Scannable s bit l events h.now base len sigs axes → sig ≡ signature l (of_row 0 axis.now).x (of_row 0 axis.now).z → has sig bit ≡ 1 → result ≡ Ok (scan_of (walk (scalar_list s after (of_row 0 axis.now).x (of_row 0 axis.now).z bit) budget.0)) }
+    requires { (base + len ≤ length h.now) × (events.sigs + events.count ≤ length h.now) × (events.axes + events.count * (2 * events.l) ≤ length h.now) × (length axis.now ≡ 2 * events.l) × (bit < 64) }
+    ensures { (s : State) → Scannable s bit events.l events.count h.now base len events.sigs events.axes → sig ≡ signature events.l (of_row 0 axis.now).x (of_row 0 axis.now).z → has sig bit ≡ 1 → result ≡ Ok (scan_of (walk (scalar_list s after (of_row 0 axis.now).x (of_row 0 axis.now).z bit) budget.0)) }
 {
     let start = first_past(&h[base..base + len], after as u64);
     let left = budget.0 as usize;
@@ -163,7 +166,7 @@ pub fn scan(
     let this = 1u64 << bit;
     for i in start..end {
         let id = h[base + i] as usize;
-        if meets(h, sigs, axes, l, events, axis, wanted, this, id)? {
+        if meets(h, events, axis, wanted, this, id)? {
             return Ok(Scan::Blocked(Budget((left - (i + 1 - start)) as u32)));
         }
     }

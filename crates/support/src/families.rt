@@ -12,6 +12,7 @@ ghost use Rattle.support.specs.Families.{ScalarRooms, ScalarPushes, ScalarKills,
 ghost use Rattle.support.specs.Runs.{Each, Scans};
 
 use lists::budget::{Budget, Scan};
+use lists::scalar::EventWords;
 use pauli::bits::bits;
 use pauli::corrupt::Corrupt;
 use sliced::sliced::ListRoom;
@@ -199,9 +200,13 @@ impl Lists for ScalarLists {
             return Err(Corrupt);
         }
         let base = self.room(b);
-        lists::scalar::scan(
-            h, base, len, self.sigs, self.axes, self.l, events, axis, sig, b, after, budget,
-        )
+        let words = EventWords {
+            sigs: self.sigs,
+            axes: self.axes,
+            l: self.l,
+            count: events,
+        };
+        lists::scalar::scan(h, base, len, words, axis, sig, b, after, budget)
     }
 }
 

@@ -5,4 +5,4 @@ use Rattle.lists.proofs.scalar.meets.Goals as goal
 pub returns : goal.returns
 returns c =
     let a = c.args in
-    Meets-asked a.h.now a.sigs a.axes a.l a.events a.axis.now a.wanted a.this a.id c.anticommutes.result c.if-events-id.false c.requires.1 c.if-h-sigs.false c.anticommutes.ensures
+    Meets-asked a.h.now a.events.sigs a.events.axes a.events.l a.events.count a.axis.now a.wanted a.this a.id c.anticommutes.result c.if-events-id.false c.requires.1 c.if-h-events.false c.anticommutes.ensures

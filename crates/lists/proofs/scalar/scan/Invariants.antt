@@ -5,4 +5,4 @@ use Rattle.lists.proofs.scalar.scan.Given as goal
 
 abbrev pub invariant-loop-i : goal.invariant-loop-i
 invariant-loop-i l =
-    Scanning l.h l.base l.len l.sigs l.axes l.l l.events l.axis l.sig l.bit l.after l.start l.left l.end l.i
+    Scanning l.h l.base l.len l.events.sigs l.events.axes l.events.l l.events.count l.axis l.sig l.bit l.after l.start l.left l.end l.i
