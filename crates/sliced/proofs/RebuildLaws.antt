@@ -341,7 +341,7 @@ rebuilt h₀ base cap n len alive axes events i k h same l lk b = record {
       );
 }
 
--- a step that answers bad: then m cannot be
+-- a step that fails: then m cannot be
 pub Rebuilt-bad : (h₀ : List ℕ) (base cap n len alive axes events i k : ℕ) (h : List ℕ) → Built h₀ base cap n len alive axes events i k h → i < len → k ≤ i → len ≤ cap
     → alive + words events ≤ base → axes + 2 * events ≤ base → length h ≡ length h₀
     → (id : ℕ) (g : List ℕ) (r : Result ℕ Corrupt) → id ≡ get_or h (base + i) 0 → Stepped h base cap n k alive axes events id r g → IsErr r

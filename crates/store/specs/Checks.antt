@@ -15,8 +15,7 @@ pub record Enough (s : List ℕ) : Type 0 where
   pub header : 14 ≤ length s
   pub size : get_or s 0 0 ≤ length s
 
--- The sizes as one value, where a function takes them one by one: a struct handed over in memory is written in words and read back in pairs, and
--- the machine waits for that (docs/SPEED.md).
+-- the sizes as one value, from each of them
 abbrev pub sizes : (n l : ℕ) → forms.Form → (cap allowance at end : ℕ) → Sizes
 sizes n l form cap allowance at end = record { n = n; l = l; form = form; cap = cap; allowance = allowance; at = at; end = end }
 
