@@ -21,7 +21,7 @@ pub fn rest(w: u64) -> u64
 }
 
 // The digits of a word that a walk has left to give.
-#[derive(Clone, Copy)]
+#[derive(Clone, Copy, Debug, PartialEq, Eq)]
 pub struct SetBits {
     left: u64,
 }
