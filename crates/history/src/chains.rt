@@ -34,6 +34,7 @@ fn seek(h: &[u64], cap: usize, k: usize, id: usize) -> Option<usize>
     let mut c = 2 + k;
     let mut v = h[c] as usize;
     let mut last = cap + 1;
+    // Each link says where the next event is: there is no range to go over.
     while v > id + 1 {
         if last <= v {
             return None;

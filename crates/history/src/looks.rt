@@ -24,6 +24,7 @@ fn partner(h: &[u64], layout: &Layout, id: usize, sign: i8) -> Result<Found, Cor
     if layout.cap <= id {
         return Err(Corrupt);
     }
+    // How a stored word says the sign (docs/STORE.md).
     let kept = match h[layout.tag(id)] % 4 {
         1 => 1,
         3 => -1,
@@ -33,7 +34,7 @@ fn partner(h: &[u64], layout: &Layout, id: usize, sign: i8) -> Result<Found, Cor
     Ok(Found::Partner { id, sign })
 }
 
-// A look for an axis with its sign and its label.
+// A look for an axis with its sign and its label, which is two words here as in the store.
 pub fn look(
     h: &[u64],
     layout: &Layout,

@@ -14,7 +14,7 @@ use lists::budget::Budget;
 use pauli::corrupt::Corrupt;
 use pauli::rows::same;
 
-// What one event of a chain leads to: an older one, or the end.
+// What one event of a chain leads to: an older one, or the end. It is std's ControlFlow with names: that would carry a pair without any.
 #[derive(Clone, Copy, Debug, PartialEq, Eq)]
 pub enum Visit {
     On(usize, Budget),
@@ -34,6 +34,7 @@ fn onward(h: &[u64], cap: usize, cur: usize, left: Budget) -> Result<Visit, Corr
     }
 }
 
+// What is asked for comes word by word, as `candidate` has it in registers: a struct would go through memory on each turn (docs/SPEED.md).
 // Event cur - 1 of a chain: it is none, or before the last clear, or of another label, or of this one, which costs a step.
 fn turn(
     h: &[u64],
@@ -91,6 +92,7 @@ pub fn candidate(
     let k = bucket(low, layout.cap);
     let mut cur = h[2 + k] as usize;
     let mut left = budget;
+    // Each link says where the next event is: there is no range to go over.
     while cur != 0 {
         match turn(h, layout, events, cleared, high, low, axis, cur, left)? {
             Visit::On(next, rest) => {

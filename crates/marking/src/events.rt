@@ -9,7 +9,6 @@ ghost use Rattle.marking.specs.Marks.{qubits_of, events_of, rotation_about, bloc
 use super::rows::{axis_into, product_into, row_into};
 use frame::axes::{Basis, Kind, Tag, label, row_sign};
 use history::events::Body;
-use history::layout::Layout;
 use pauli::corrupt::Corrupt;
 use store::header::Sizes;
 
@@ -28,15 +27,7 @@ fn put(s: &mut [u64], z: &Sizes, row: &[u64], body: Body) -> Result<(), Corrupt>
     ensures fit { Fit z.now s.new }
     ensures done { Puts row.now body s.old (is_ok result) s.new }
 {
-    let Sizes {
-        form,
-        n,
-        l,
-        cap,
-        ..
-    } = *z;
-    let layout = Layout { form, n, l, cap };
-    history::record::record(&mut s[z.at..z.end], &layout, &row[1..], body)?;
+    history::record::record(&mut s[z.at..z.end], &z.layout(), &row[1..], body)?;
     Ok(())
 }
 

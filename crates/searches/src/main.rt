@@ -39,8 +39,8 @@ fn name(form: Form) -> &'static str {
     }
 }
 
-// Records a rotation about Z0, and tells whether it is kept with this number.
-fn rotate(h: &mut [u64], layout: &Layout, number: usize) -> bool
+// Records a rotation about Z0, and gives its number.
+fn rotate(h: &mut [u64], layout: &Layout) -> Result<usize, Corrupt>
     requires { Fits layout.now h.old × (layout.now.l ≡ 1) }
     ensures { length h.new ≡ length h.old }
 {
@@ -50,7 +50,7 @@ fn rotate(h: &mut [u64], layout: &Layout, number: usize) -> bool
         high: 0,
         low: 0,
     };
-    history::record::record(h, layout, &[0, 1], body) == Ok(number)
+    history::record::record(h, layout, &[0, 1], body)
 }
 
 // An empty history, and so many rotations about Z0. The answer is how many of them are kept with the next number.
@@ -61,7 +61,7 @@ fn filled(h: &mut [u64], layout: &Layout, many: usize) -> usize
     history::opening::fresh(h, layout);
     let mut kept = 0;
     for i in 0..many {
-        if rotate(h, layout, i) {
+        if rotate(h, layout) == Ok(i) {
             kept += 1;
         }
     }

@@ -4,9 +4,8 @@ ghost use Rattle.model.specs.Calls.{call_kill, call_clear, call_read};
 ghost use Rattle.store.specs.Promises.{told_done, told_read, Answers, Meets};
 
 use history::events::Rotation;
-use history::layout::Layout;
 use store::answers::Reading;
-use store::header::{Sizes, check, sizes_of};
+use store::header::{check, sizes_of};
 use store::refusals::Refusal;
 
 // Kills the rotation `id`. "7: no such event, a blocker, or dead"
@@ -14,17 +13,8 @@ pub fn kill(s: &mut [u64], id: usize) -> Result<(), Refusal>
     ensures { Meets (call_kill id) s.old (told_done result) s.new }
 {
     check(s)?;
-    let Sizes {
-        form,
-        n,
-        l,
-        cap,
-        at,
-        end,
-        ..
-    } = sizes_of(s);
-    let layout = Layout { form, n, l, cap };
-    Ok(history::kill::kill(&mut s[at..end], &layout, id)?)
+    let z = sizes_of(s);
+    Ok(history::kill::kill(&mut s[z.at..z.end], &z.layout(), id)?)
 }
 
 // No rotation recorded so far can be found any more.
@@ -44,17 +34,8 @@ pub fn read(s: &[u64], id: usize) -> Reading
     match check(s) {
         Err(e) => Reading::Refused(e.code()),
         Ok(_) => {
-            let Sizes {
-                form,
-                n,
-                l,
-                cap,
-                at,
-                end,
-                ..
-            } = sizes_of(s);
-            let layout = Layout { form, n, l, cap };
-            match history::events::read(&s[at..end], &layout, id) {
+            let z = sizes_of(s);
+            match history::events::read(&s[z.at..z.end], &z.layout(), id) {
                 Ok(Some(Rotation { tag, sign, live })) => Reading::Says { tag, sign, live },
                 Ok(None) => Reading::Refused(7),
                 Err(_) => Reading::Refused(9),

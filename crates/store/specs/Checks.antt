@@ -3,6 +3,7 @@ use Rattle.std.specs.Prelude.{◌≡◌, ◌⊎◌, List, ℕ, ◌+◌, ◌^◌,
 use Rattle.model.specs.Events.{Form, State, words}
 use Rattle.history.specs.Words.{history_room}
 use Rattle.history.specs.Sizes.{form_of, Narrow}
+use Rattle.history.specs.declared.layout.Layout.{Layout}
 use Rattle.history.specs.declared.forms.Form as forms
 use Rattle.history.specs.declared.forms.Form.TheVariants as variants
 use Rattle.store.specs.declared.header.Sizes.{Sizes}
@@ -41,6 +42,13 @@ pub record Fit (z : Sizes) (s : List ℕ) : Type 0 where
   pub begins : z.at ≡ history_place z.n z.l
   pub ends : z.end ≡ history_place z.n z.l + history_room (form_of z.form) z.n z.cap z.l
   pub fits : z.end ≤ length s
+
+-- what the history has to know of the sizes
+pub record Spans (z : Sizes) (y : Layout) : Type 0 where
+  pub form : y.form ≡ z.form
+  pub n : y.n ≡ z.n
+  pub l : y.l ≡ z.l
+  pub cap : y.cap ≡ z.cap
 
 -- the form that a word of the header says: 0 scalar, else sliced
 unfoldable pub form_at : ℕ → forms.Form

@@ -5,14 +5,15 @@ ghost use Rattle.std.specs.Prelude.{◌≡◌, ◌≤◌, ◌^◌, get_or, Match
 ghost use Rattle.history.specs.Words.{history_room};
 ghost use Rattle.history.specs.Sizes.{form_of, Narrow};
 ghost use Rattle.store.specs.Stores.{form_code, history_place};
-ghost use Rattle.store.specs.Checks.{Framing, Fit, form_at, sizes_at, Unsound};
+ghost use Rattle.store.specs.Checks.{Framing, Fit, form_at, sizes_at, Spans, Unsound};
 
 use super::refusals::Refusal;
 use history::forms::Form;
+use history::layout::Layout;
 
 // The sizes of a store: n qubits, l words to a plane, the form of its lists, the room for events and the steps of a look; and where the history's
 // part begins and ends.
-#[derive(Clone, Copy)]
+#[derive(Clone, Copy, Debug, PartialEq, Eq)]
 pub struct Sizes {
     pub n: usize,
     pub l: usize,
@@ -21,6 +22,24 @@ pub struct Sizes {
     pub allowance: u32,
     pub at: usize,
     pub end: usize,
+}
+
+impl Sizes {
+    // What the history has to know of them.
+    #[inline]
+    pub fn layout(&self) -> Layout
+        requires { self.now.cap ≤ 2 ^ 24 }
+        ensures { Spans self.now result }
+    {
+        let Sizes {
+            form,
+            n,
+            l,
+            cap,
+            ..
+        } = *self;
+        Layout { form, n, l, cap }
+    }
 }
 
 // Where the history's part begins: behind the header and both frames.

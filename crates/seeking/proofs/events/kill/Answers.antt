@@ -12,15 +12,17 @@ returns-in_err-check c =
     rw (p.1, p.2) (unsound_Meets (call_kill c.args.id) c.args.s.now _ c.in_err-check.ensures)
 
 pub kill-requires : goal.kill-requires
-kill-requires c = lent-Sized c.sizes_of-n.result c.args.s.now c.sizes_of-n.ensures
+kill-requires c = let e = c.layout.ensures in rw (e.form, e.n, e.cap, e.l) (lent-Sized c.sizes_of-z.result c.args.s.now c.sizes_of-z.ensures)
 
 pub returns-in_err-kill : goal.returns-in_err-kill
 returns-in_err-kill c =
     let p = err_from_is_err_and c.from_residual-in_err-kill.result c.from_residual-in_err-kill.ensures.1 in
     let k = c.kill in
-    rw (p.1, p.2) (kill_failed c.sizes_of-n.result c.args.s.now c.sizes_of-n.ensures k.new.h c.args.id k.result k.ensures.long k.ensures.refused k.ensures.done _ c.in_err-kill.was k.ensures.kept)
+    let e = c.layout.ensures in
+    rw (p.1, p.2) (kill_failed c.sizes_of-z.result c.args.s.now c.sizes_of-z.ensures k.new.h c.args.id k.result k.ensures.long (rw (e.form, e.n, e.cap, e.l) at k.ensures.refused) (rw (e.form, e.n, e.cap, e.l) at k.ensures.done) _ c.in_err-kill.was k.ensures.kept)
 
 pub returns : goal.returns
 returns c =
     let k = c.kill in
-    kill-Done c.sizes_of-n.result c.args.s.now c.sizes_of-n.ensures k.new.h c.args.id k.result k.ensures.long k.ensures.refused k.ensures.done _ c.in_ok-kill.was
+    let e = c.layout.ensures in
+    kill-Done c.sizes_of-z.result c.args.s.now c.sizes_of-z.ensures k.new.h c.args.id k.result k.ensures.long (rw (e.form, e.n, e.cap, e.l) at k.ensures.refused) (rw (e.form, e.n, e.cap, e.l) at k.ensures.done) _ c.in_ok-kill.was

@@ -10,7 +10,7 @@ use Rattle.model.specs.Calls.{call_read}
 use Rattle.seeking.proofs.events.read.Goals as goal
 
 pub read-requires : goal.read-requires
-read-requires c = (lent_counts c.sizes_of-n.result c.args.s.now c.sizes_of-n.ensures, planes_small c.sizes_of-n.result c.args.s.now c.sizes_of-n.ensures)
+read-requires c = let e = c.layout.ensures in rw (e.cap, e.l) (lent_counts c.sizes_of-z.result c.args.s.now c.sizes_of-z.ensures, planes_small c.sizes_of-z.result c.args.s.now c.sizes_of-z.ensures)
 
 pub returns-in-Err : goal.returns-in-Err
 unfolding told_read
@@ -18,12 +18,12 @@ returns-in-Err c = rw c.code.ensures (unsound_Answers (call_read c.args.id) c.ar
 
 pub returns-in-Ok-Some : goal.returns-in-Ok-Some
 unfolding told_read
-returns-in-Ok-Some c = read_Says c.sizes_of-n.result c.args.s.now c.sizes_of-n.ensures c.args.id c.read.result c.read.ensures.nothing c.read.ensures.says c.in-Ok-Some.field-0-0 (record { sfits = omega arith }) (c.in-Ok-Some.is ∙ ap Ok c.in-Ok-Some.field-0-is)
+returns-in-Ok-Some c = read_Says c.sizes_of-z.result c.args.s.now c.sizes_of-z.ensures c.args.id c.read.result (rw (c.layout.ensures.cap, c.layout.ensures.l) at c.read.ensures.nothing) (rw (c.layout.ensures.cap, c.layout.ensures.l) at c.read.ensures.says) c.in-Ok-Some.field-0-0 (record { sfits = omega arith }) (c.in-Ok-Some.is ∙ ap Ok c.in-Ok-Some.field-0-is)
 
 pub returns-in-Ok-None : goal.returns-in-Ok-None
 unfolding told_read
-returns-in-Ok-None c = read_nothing c.sizes_of-n.result c.args.s.now c.sizes_of-n.ensures c.args.id c.read.result c.read.ensures.nothing c.read.ensures.says (c.in-Ok-None.is ∙ ap Ok c.in-Ok-None.field-0-is)
+returns-in-Ok-None c = read_nothing c.sizes_of-z.result c.args.s.now c.sizes_of-z.ensures c.args.id c.read.result (rw (c.layout.ensures.cap, c.layout.ensures.l) at c.read.ensures.nothing) (rw (c.layout.ensures.cap, c.layout.ensures.l) at c.read.ensures.says) (c.in-Ok-None.is ∙ ap Ok c.in-Ok-None.field-0-is)
 
 pub returns-in-Err-read : goal.returns-in-Err-read
 unfolding told_read
-returns-in-Err-read c = read_bad c.sizes_of-n.result c.args.s.now c.sizes_of-n.ensures c.args.id c.read.result c.read.ensures.nothing c.read.ensures.says _ c.in-Err-read.is
+returns-in-Err-read c = read_bad c.sizes_of-z.result c.args.s.now c.sizes_of-z.ensures c.args.id c.read.result (rw (c.layout.ensures.cap, c.layout.ensures.l) at c.read.ensures.nothing) (rw (c.layout.ensures.cap, c.layout.ensures.l) at c.read.ensures.says) _ c.in-Err-read.is
