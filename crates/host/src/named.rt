@@ -1,4 +1,5 @@
-// Which gate, kind or form a number names (specs/Numbers.antt).
+// Which gate, kind or form a number names (specs/Numbers.antt). Functions and no `TryFrom`: the numbers are the C interface's alone, and a gate has two qubits
+// besides.
 ghost use Rattle.std.specs.Prelude.{◌≡◌};
 ghost use Rattle.host.specs.Numbers.{named, gates, kinds, forms};
 ghost use Rattle.host.specs.Named.{gate_named, kind_named, form_named};

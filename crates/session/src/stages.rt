@@ -9,7 +9,7 @@ pub const MAX_QUBITS: usize = 32;
 pub const MAX_EVENTS: usize = 48;
 
 // Which line comes next, with what the lines before it gave.
-#[derive(Clone, Copy)]
+#[derive(Clone, Copy, Debug, PartialEq, Eq)]
 pub enum Stage {
     Qubits,
     Form {
@@ -58,7 +58,7 @@ impl Stage {
 }
 
 // How many lines are finished, how many bytes of the next are held in the lent line buffer, and the stage.
-#[derive(Clone, Copy)]
+#[derive(Clone, Copy, Debug, PartialEq, Eq)]
 pub struct Talk {
     pub line: u64,
     pub held: usize,
@@ -66,7 +66,7 @@ pub struct Talk {
 }
 
 // A job goes on from there, or stops; with how many bytes are said.
-#[derive(Clone, Copy)]
+#[derive(Clone, Copy, Debug, PartialEq, Eq)]
 pub enum Ran<T> {
     On(T, usize),
     Stop(usize),

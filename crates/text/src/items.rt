@@ -4,7 +4,7 @@ ghost use Rattle.text.specs.Shape.{item_of};
 ghost use Rattle.text.specs.Items.{item_in};
 
 // A place for a number, a tag, a word or a kind.
-#[derive(Clone, Copy)]
+#[derive(Clone, Copy, Debug, PartialEq, Eq)]
 pub enum Place {
     Number,
     Tag,
@@ -13,7 +13,7 @@ pub enum Place {
 }
 
 // A place; or a byte that stands for itself.
-#[derive(Clone, Copy)]
+#[derive(Clone, Copy, Debug, PartialEq, Eq)]
 pub enum Item {
     Place(Place),
     Byte(u8),

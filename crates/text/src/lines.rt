@@ -14,7 +14,7 @@ use partner::calls::Call;
 pub const LINE_BYTES: usize = 80;
 
 // A line of the input, by value: the four of the header, a label with the high and the low word of X and of Z, a call that writes, or a look.
-#[derive(Clone, Copy)]
+#[derive(Clone, Copy, Debug, PartialEq, Eq)]
 pub enum Line {
     Qubits(u64),
     Form(Form),
@@ -34,7 +34,8 @@ pub enum Line {
     },
 }
 
-// The kind of a number below 4, as the letter's place gives it.
+// The kind of a number below 4, as the letter's place gives it: in the language of shapes a kind is a value like each other. No `TryFrom`, since a larger number
+// does not come.
 #[tactic(auto, unfolding(crate::specs::Line::kind_numbered))]
 fn kind_of(k: u64) -> Kind
     ensures { result ≡ kind_numbered k }

@@ -12,7 +12,7 @@ const NUMBERS: u64 = 10_000_000_000;
 const TAGS: u64 = 1 << 32;
 
 // The values of a shape, in order, the last of them in e.
-#[derive(Clone, Copy)]
+#[derive(Clone, Copy, Debug, PartialEq, Eq)]
 pub struct Five {
     pub a: u64,
     pub b: u64,

@@ -56,7 +56,7 @@ fn put_hexes(out: &mut [u8], at: usize, n: usize, v: u64) -> usize
     put_byte(out, next, digit(v % 16))
 }
 
-// The letter of a kind by number.
+// The letter of a kind by number (`letter` of specs/Shape.antt).
 #[tactic(auto, unfolding(crate::specs::Shape::letter))]
 fn letter_of(v: u64) -> u8
     ensures { result ≡ letter v }
