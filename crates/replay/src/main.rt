@@ -17,7 +17,7 @@ use text::lines::LINE_BYTES;
 const MARK: u8 = 30;
 
 // A job: none of its bytes is read; it goes on; or its session stopped.
-#[derive(Drop)]
+#[derive(Debug, Drop)]
 enum Job {
     New,
     On(Talk),
@@ -25,10 +25,19 @@ enum Job {
 }
 
 // The job's number, from 1, and the job.
-#[derive(Drop)]
+#[derive(Debug, Drop)]
 struct Place {
     number: u64,
     job: Job,
+}
+
+// The slices that a session is lent.
+#[derive(Drop)]
+struct Desk {
+    buf: [u8; LINE_BYTES],
+    labels: [u64; LABEL_WORDS],
+    store: [u64; STORE_WORDS],
+    out: [u8; 65536],
 }
 
 // The place of the next mark from a place on, or the end.
@@ -57,25 +66,24 @@ fn name(rt: &impl Print, number: u64) {
 }
 
 // The next bytes of a job that goes on.
-fn talk(
-    rt: &impl Print,
-    t: Talk,
-    bytes: &[u8],
-    buf: &mut [u8],
-    labels: &mut [u64],
-    store: &mut [u64],
-    out: &mut [u8],
-) -> Job
-    requires { Open (jobs.On t) bytes.now buf.old labels.old store.old out.old }
-    ensures { Leads (jobs.On t) bytes.now result buf.new labels.new store.new }
+fn talk(rt: &impl Print, t: Talk, bytes: &[u8], desk: &mut Desk) -> Job
+    requires { Open (jobs.On t) bytes.now }
+    ensures { Leads (jobs.On t) bytes.now result }
 {
-    match run(t, bytes, buf, labels, store, out) {
+    match run(
+        t,
+        bytes,
+        &mut desk.buf,
+        &mut desk.labels,
+        &mut desk.store,
+        &mut desk.out,
+    ) {
         Ok(Ran::On(next, said)) => {
-            say(rt, &out[..said]);
+            say(rt, &desk.out[..said]);
             Job::On(next)
         }
         Ok(Ran::Stop(said)) => {
-            say(rt, &out[..said]);
+            say(rt, &desk.out[..said]);
             Job::Over
         }
         // Only on slices of other sizes: it is proved that these are not.
@@ -84,25 +92,16 @@ fn talk(
 }
 
 // The next bytes of any job.
-fn piece(
-    rt: &impl Print,
-    p: Place,
-    bytes: &[u8],
-    buf: &mut [u8],
-    labels: &mut [u64],
-    store: &mut [u64],
-    out: &mut [u8],
-) -> Job
-    requires { Open p.job bytes.now buf.old labels.old store.old out.old }
-    ensures { Leads p.job bytes.now result buf.new labels.new store.new }
+fn piece(rt: &impl Print, p: Place, bytes: &[u8], desk: &mut Desk) -> Job
+    requires { Open p.job bytes.now }
+    ensures { Leads p.job bytes.now result }
 {
-    let job = p.job;
-    match job {
+    match p.job {
         Job::New => {
             name(rt, p.number);
-            talk(rt, start(), bytes, buf, labels, store, out)
+            talk(rt, start(), bytes, desk)
         }
-        Job::On(t) => talk(rt, t, bytes, buf, labels, store, out),
+        Job::On(t) => talk(rt, t, bytes, desk),
         Job::Over => Job::Over,
     }
 }
@@ -116,23 +115,14 @@ fn end(rt: &impl Print, job: Job, out: &mut [u8]) {
 }
 
 // The bytes up to the next mark or the end of the block, and the mark.
-fn step(
-    rt: &impl Print,
-    p: Place,
-    bytes: &[u8],
-    marked: bool,
-    buf: &mut [u8],
-    labels: &mut [u64],
-    store: &mut [u64],
-    out: &mut [u8],
-) -> Place
-    requires { Open p.job bytes.now buf.old labels.old store.old out.old × (p.number < 2 ^ 63) }
-    ensures { Leads p.job bytes.now result.job buf.new labels.new store.new × (result.number ≤ p.number + 1) }
+fn step(rt: &impl Print, p: Place, bytes: &[u8], marked: bool, desk: &mut Desk) -> Place
+    requires { Open p.job bytes.now × (p.number < 2 ^ 63) }
+    ensures { Leads p.job bytes.now result.job × (result.number ≤ p.number + 1) }
 {
     let number = p.number;
-    let job = piece(rt, p, bytes, buf, labels, store, out);
+    let job = piece(rt, p, bytes, desk);
     if marked {
-        end(rt, job, out);
+        end(rt, job, &mut desk.out);
         return Place {
             number: number + 1,
             job: Job::New,
@@ -142,32 +132,16 @@ fn step(
 }
 
 // A block of the input.
-fn block(
-    rt: &impl Print,
-    from: Place,
-    bytes: &[u8],
-    buf: &mut [u8],
-    labels: &mut [u64],
-    store: &mut [u64],
-    out: &mut [u8],
-) -> Place
-    requires { Open from.job bytes.now buf.old labels.old store.old out.old × (from.number + length bytes.now < 2 ^ 63) }
-    ensures { Leads from.job bytes.now result.job buf.new labels.new store.new × (result.number ≤ from.number + length bytes.now + 1) }
+fn block(rt: &impl Print, from: Place, bytes: &[u8], desk: &mut Desk) -> Place
+    requires { Open from.job bytes.now × (from.number + length bytes.now < 2 ^ 63) }
+    ensures { Leads from.job bytes.now result.job × (result.number ≤ from.number + length bytes.now + 1) }
 {
     let mut p = from;
-    let mut i: usize = 0;
+    let mut i = 0;
+    // By hand: a mark may be the last byte of a block, or none be left, and `until` says which.
     while i < bytes.len() {
         let e = until(bytes, i);
-        p = step(
-            rt,
-            p,
-            &bytes[i..e],
-            e < bytes.len(),
-            buf,
-            labels,
-            store,
-            out,
-        );
+        p = step(rt, p, &bytes[i..e], e < bytes.len(), desk);
         i = e + 1;
     }
     p
@@ -178,10 +152,12 @@ fn main(rt: HostRuntime) -> io::Result<()> {
         number: 1,
         job: Job::New,
     };
-    let mut buf = [0u8; LINE_BYTES];
-    let mut labels = [0u64; LABEL_WORDS];
-    let mut store = [0u64; STORE_WORDS];
-    let mut out = [0u8; 65536];
+    let mut desk = Desk {
+        buf: [0; LINE_BYTES],
+        labels: [0; LABEL_WORDS],
+        store: [0; STORE_WORDS],
+        out: [0; 65536],
+    };
     let mut input = rt.stdin();
     // A proved loop ends: so many reads are never made.
     for _turn in 0..1u64 << 40 {
@@ -190,15 +166,7 @@ fn main(rt: HostRuntime) -> io::Result<()> {
         if n == 0 {
             break;
         }
-        p = block(
-            &rt,
-            p,
-            &bytes[..n],
-            &mut buf,
-            &mut labels,
-            &mut store,
-            &mut out,
-        );
+        p = block(&rt, p, &bytes[..n], &mut desk);
     }
     Ok(())
 }
