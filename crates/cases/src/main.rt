@@ -12,7 +12,7 @@ ghost use Rattle.cases.specs.Seen.{number_of, of_y};
 
 use frame::axes::Basis;
 
-// A sign as a number: 1 for +1, 2 for -1, 0 for none.
+// A sign as a number: 1 for +1, 2 for -1, 0 for none. `of_y` of specs/Seen and its theorems `case5_is` to `case8_is` speak of these numbers.
 fn number(g: Option<i8>) -> u64
     ensures { result ≡ number_of g }
 {

@@ -23,7 +23,7 @@ pub enum Basis {
 }
 
 // The row of qubit q, phase first, as a part of one of two lent slices: xs is the frame from its first X row on, zs from its first Z
-// row on.
+// row on. It stays beside `axis_row`: docs/DECISIONS.md names it for what it promises of two slices.
 pub fn row_of<'a>(xs: &'a [u64], zs: &'a [u64], basis: Basis, q: usize, l: usize) -> &'a [u64]
     requires { Reaches l q xs.now × Reaches l q zs.now }
     ensures { result.now ≡ words_of_row l q (either basis xs.now zs.now) }
@@ -138,7 +138,7 @@ fn tag_at(s: &[u64], at: usize) -> Tag
     }
 }
 
-// The label of the axis of a kind.
+// The label of the axis of a kind. The place of the labels, behind the rows, is written out: a function of n, l and q would be as long.
 pub fn label(s: &[u64], n: usize, l: usize, kind: Kind, q: usize) -> Tag
     requires { Sized (2 * n) l s.now × (q < n) }
     ensures { (f : Rows Pauli) (k : Rows Label) → Held n l f k s.now → tag_of result ≡ axis labels (kind_of kind) q k }

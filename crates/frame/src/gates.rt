@@ -8,7 +8,8 @@ ghost use Rattle.frame.specs.Places.{Sized, applied, Does};
 use crate::moves::{swap, times};
 use pauli::corrupt::Corrupt;
 
-// ---- gates of one move or two
+// ---- gates of one move or two: each is a line or two over `turn`, `quarter`, `times` and `swap`, which take what differs as a parameter. One
+// function for two gates would need a name for each of its cases: no plainer.
 
 pub fn gate_h(s: &mut [u64], n: usize, l: usize, q: usize)
     requires { Sized (2 * n) l s.old × (q < n) }
@@ -110,7 +111,8 @@ pub fn gate_cy(s: &mut [u64], n: usize, l: usize, c: usize, t: usize) -> Result<
 
 // ---- turns
 
-// A turn by k of kind z or p: s, z or sdg for 2, 4, 6, and nothing else.
+// A turn by k of kind z or p: s, z or sdg for 2, 4, 6, and nothing else. k is the public call's number of eighths; gates as closures in a table
+// would say no more than the match.
 pub fn turn_z(s: &mut [u64], n: usize, l: usize, k: u64, q: usize) -> Result<(), Corrupt>
     requires { Sized (2 * n) l s.old × (q < n) }
     ensures { Does n l (λ (A : Type 0) (o : Ops A). turn_z o k q) s.old (is_ok result) s.new }

@@ -37,7 +37,7 @@ fn mix(s: &mut [u64], at: usize, by: usize)
     s[at + 1] ^= s[by + 1];
 }
 
-// The row g becomes its product with the row k, times i^by.
+// The row g becomes its product with the row k, times i^by. (Six parameters: lib.rt says why the words and their sizes are three.)
 pub fn times(s: &mut [u64], m: usize, l: usize, g: usize, k: usize, by: u64) -> Result<(), Corrupt>
     requires { Sized m l s.old × (g < m) × (k < m) × (g ≡ k → ⊥) × (by < 4) }
     ensures { Moves m l (λ (A : Type 0) (o : Ops A). times_row o by g k) s.old (is_ok result) s.new }

@@ -11,7 +11,8 @@ use crate::bits::bits;
 // ---- counts
 
 // Whether the sets a and b have an odd number of qubits in common: 1 or 0. With a row's Z plane and another's X plane: whether their
-// product changes its sign.
+// product changes its sign. `crossed_twice`, `multiply` and frame's `joined` fold the same, but each reads and writes other parts in its one walk:
+// one function for them would copy a row first or walk twice.
 pub fn crossings(a: &[u64], b: &[u64]) -> u64
     requires { length a.now ≡ length b.now }
     ensures { result ≡ count (bit_and (value a.now) (value b.now)) % 2 }
