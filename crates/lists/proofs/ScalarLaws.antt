@@ -7,6 +7,7 @@ use Prim.Native.Nat.{ℕ, ◌+◌, ◌-◌, ◌*◌, ◌/◌, ◌%◌, ◌≤◌
 use native.Mathlib.Nat.{not-suc-le-zero}
 use native.Mathlib.Numerals.{add-one}
 use native.Mathlib.Omega.{arith}
+use native.Mathlib.Decide.{dec_lt}
 use lib.ListN.{length, get_or, set, take, drop, length-set, length-append, get_or-append}
 use lib.Dec.{eqb}
 use lib.Seq.{get_or-set_same, get_or-set_other, get_or-append_seam, get_or-drop, take-suc, take-length}
@@ -19,6 +20,7 @@ use Rattle.pauli.proofs.Words.{rest_part, rest_length}
 use Rattle.lists.specs.Lists.{Room, Numbers, Only, Among, is_live, Known, drops_at, left, still}
 use Rattle.lists.specs.Scalars.{Scalar, ScalarTo, pushed, noted, Retained, Dropped}
 use Rattle.std.specs.Prelude.{Result, Ok, Err, IsErr}
+use Rattle.std.specs.Result.{result_unwrap_or}
 use Rattle.pauli.specs.declared.corrupt.Corrupt.{Corrupt}
 
 -- ---- a number at the end
@@ -84,7 +86,7 @@ pushed_to h at base cap id ids d room m lt = pushed_to_is h at base cap id (get_
 pub same_Ok : {E : Type 0} (j k : ℕ) → ◌≡◌ {A = Result ℕ E} (Ok j) (Ok k) → j ≡ k
 same_Ok j k e = cc
 
-pub err_not : {E A : Type 0} (r : Result ℕ E) (k : ℕ) → IsErr r → r ≡ Ok k → A
+pub err_not : {X E A : Type 0} (r : Result X E) (k : X) → IsErr r → r ≡ Ok k → A
 err_not (Ok j) k b e = absurd (true≢false (sym b))
 err_not (Err x) k b e = absurd cc
 
@@ -100,16 +102,35 @@ live_part h alive e = ap (λ (w : ℕ). eqb (has w (e % 64)) 1) (ap (λ (p : Lis
 pub part_long : (h : List ℕ) (alive base k e n : ℕ) → e < n → alive + words n ≤ base → base + k < length h → e / 64 < length (take (length h - alive) (drop alive h))
 part_long h alive base k e n l f g = omega (arith, in_words e n l, rest_length h alive)
 
+-- a test whose error counts as no
+pub yes_is : {E : Type 0} (a : Result Bool E) → result_unwrap_or a false ≡ true → a ≡ Ok true
+yes_is (Ok t) e = ap Ok e
+yes_is (Err x) e = absurd (true≢false (sym e))
+
+-- what a test of the set says of the event id
+module _ (h : List ℕ) (alive events id : ℕ) (a : Result Bool Corrupt) (unknown : events ≤ id → IsErr a) (known : id < events → a ≡ Ok (is_live h alive id)) where
+  pub told : (t : Bool) → a ≡ Ok t → (id < events) × (is_live h alive id ≡ t)
+  told t e = elim (dec_lt id events) [
+    | yes l ↦ (l, let k = known l in cc)
+    | no l ↦ err_not a t (unknown (omega arith)) e
+  ]
+
+  pub told_none : IsErr a → events ≤ id
+  told_none e = elim (dec_lt id events) [
+    | yes l ↦ err_not a (is_live h alive id) e (known l)
+    | no l ↦ omega arith
+  ]
+
 pub only_none : (P : ℕ → Type 0) (s : List ℕ) → Only P s s
 only_none P s = record { same_length = refl; kept = λ k f. refl }
 
 module _ (h : List ℕ) (base k alive events id : ℕ) where
-  pub Retained-bad : events ≤ id → Retained h base k alive events id (Err (record {})) h
-  Retained-bad l = record {
-    unknown = λ g. refl;
+  pub Retained-bad : events ≤ id → (q : Result ℕ Corrupt) → IsErr q → Retained h base k alive events id q h
+  Retained-bad l q f = record {
+    unknown = λ g. f;
     live = λ g. absurd (omega arith);
     dead = λ g. absurd (omega arith);
-    next = λ j e. absurd cc;
+    next = λ j e. err_not q j f e;
     only = only_none (Among (base + k) 1) h;
   }
 

@@ -3,5 +3,6 @@
 #![tactic(auto)]
 
 pub mod budget;
+pub mod live;
 pub mod places;
 pub mod scalar;

@@ -10,10 +10,10 @@ ghost use Rattle.lists.specs.Scalars.{Scalar, ScalarTo, pushed, noted, Retained,
 ghost use Rattle.lists.specs.Scans.{Scannable, scan_of, Meets};
 
 use super::budget::{Budget, Scan};
+use super::live::LiveSet;
 use super::places::first_past;
 use pauli::corrupt::Corrupt;
 use pauli::rows::anticommutes;
-use pauli::sets::contains;
 
 // ---- recording
 
@@ -36,22 +36,11 @@ pub fn push(h: &mut [u64], at: usize, base: usize, cap: usize, id: u64) -> Resul
 // ---- a death
 
 // Keeps the number `id` at place k, where its event is live; the answer is where the next number that is kept goes.
-fn retain(
-    h: &mut [u64],
-    base: usize,
-    k: usize,
-    alive: usize,
-    events: usize,
-    id: u64,
-) -> Result<usize, Corrupt>
-    requires { (base + k < length h.old) × (alive + words events ≤ base) }
-    ensures { Retained h.old base k alive events id result h.new }
+fn retain(h: &mut [u64], base: usize, k: usize, live: LiveSet, id: u64) -> Result<usize, Corrupt>
+    requires { (base + k < length h.old) × (live.at + words live.events ≤ base) }
+    ensures { Retained h.old base k live.at live.events id result h.new }
 {
-    let e = id as usize;
-    if events <= e {
-        return Err(Corrupt);
-    }
-    if contains(&h[alive..], e) {
+    if live.has(h, id)? {
         h[base + k] = id;
         return Ok(k + 1);
     }
@@ -59,39 +48,32 @@ fn retain(
 }
 
 // Drops the numbers whose events are dead; the answer is how many are left.
-fn drop_dead(
-    h: &mut [u64],
-    base: usize,
-    len: usize,
-    alive: usize,
-    events: usize,
-) -> Result<usize, Corrupt>
-    requires { (base + len ≤ length h.old) × (alive + words events ≤ base) }
-    ensures { Dropped h.old base len alive events result h.new }
+fn drop_dead(h: &mut [u64], base: usize, len: usize, live: LiveSet) -> Result<usize, Corrupt>
+    requires { (base + len ≤ length h.old) × (live.at + words live.events ≤ base) }
+    ensures { Dropped h.old base len live.at live.events result h.new }
 {
     let mut k = 0;
     for i in 0..len {
         let id = h[base + i];
-        k = retain(h, base, k, alive, events, id)?;
+        k = retain(h, base, k, live, id)?;
     }
     Ok(k)
 }
 
-// One more number of the list is dead, and its event is no longer in the set of live events at `alive`: the dead are dropped once they are
+// One more number of the list is dead, and its event is no longer in the set of live events: the dead are dropped once they are
 // more than a quarter.
 pub fn note_dead(
     h: &mut [u64],
     at: usize,
     base: usize,
     cap: usize,
-    alive: usize,
-    events: usize,
+    live: LiveSet,
 ) -> Result<(), Corrupt>
-    requires { Room h.old at base cap × (alive + words events ≤ base) }
+    requires { Room h.old at base cap × (live.at + words live.events ≤ base) }
     ensures long { length h.new ≡ length h.old }
     ensures over { cap < get_or h.old at 0 → IsErr result }
     ensures all { get_or h.old at 0 ≤ get_or h.old (at + 1) 0 → IsErr result }
-    ensures done { (ids : List ℕ) (d : ℕ) → Scalar h.old at base cap ids d → d < length ids → Known events ids → IsOk result × ScalarTo h.old at base cap (noted h.old alive d ids) (still 4 (d + 1) (length ids)) h.new }
+    ensures done { (ids : List ℕ) (d : ℕ) → Scalar h.old at base cap ids d → d < length ids → Known live.events ids → IsOk result × ScalarTo h.old at base cap (noted h.old live.at d ids) (still 4 (d + 1) (length ids)) h.new }
 {
     let len = h[at] as usize;
     let dead = h[at + 1] as usize;
@@ -102,7 +84,7 @@ pub fn note_dead(
         h[at + 1] = (dead + 1) as u64;
         return Ok(());
     }
-    let k = drop_dead(h, base, len, alive, events)?;
+    let k = drop_dead(h, base, len, live)?;
     h[at] = k as u64;
     h[at + 1] = 0;
     Ok(())

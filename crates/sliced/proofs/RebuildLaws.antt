@@ -101,12 +101,12 @@ pub small_z : (x z n : ℕ) → bit_or x z / 2 ^ n ≡ 0 → z < 2 ^ n
 small_z x z n e = omega (arith, small (bit_or x z) n e, or_right x z)
 
 module _ (h : List ℕ) (base cap n k alive axes events id : ℕ) where
-  pub Stepped-unknown : events ≤ id → Stepped h base cap n k alive axes events id (Err (record {})) h
-  Stepped-unknown l = record {
-    unknown = λ a. refl;
+  pub Stepped-unknown : events ≤ id → (q : Result ℕ Corrupt) → IsErr q → Stepped h base cap n k alive axes events id q h
+  Stepped-unknown l q f = record {
+    unknown = λ a. f;
     dead = λ a b. absurd (omega arith);
     live = λ a b c d. absurd (omega arith);
-    next = λ j e. absurd cc;
+    next = λ j e. err_not q j f e;
     long = refl;
   }
 

@@ -13,11 +13,11 @@ ghost use Rattle.sliced.specs.Steps.{Marked, Opened, Appended, Killed, Stepped, 
 
 use super::masks::anticommuting;
 use lists::budget::{Budget, Scan};
+use lists::live::LiveSet;
 use lists::places::{first_past, place_of};
 use pauli::bits::bits;
 use pauli::corrupt::Corrupt;
 use pauli::fill::clear;
-use pauli::sets::contains;
 
 // ---- the words
 
@@ -120,22 +120,17 @@ fn keep(
     h: &mut [u64],
     room: ListRoom,
     k: usize,
-    alive: usize,
+    live: LiveSet,
     axes: usize,
-    events: usize,
     id: u64,
 ) -> Result<usize, Corrupt>
-    requires { Spread h.old room.base room.cap room.n × (k < room.cap) × (alive + words events ≤ room.base) × (axes + 2 * events ≤ room.base) }
-    ensures { Stepped h.old room.base room.cap room.n k alive axes events id result h.new }
+    requires { Spread h.old room.base room.cap room.n × (k < room.cap) × (live.at + words live.events ≤ room.base) × (axes + 2 * live.events ≤ room.base) }
+    ensures { Stepped h.old room.base room.cap room.n k live.at axes live.events id result h.new }
 {
-    let e = id as usize;
-    if events <= e {
-        return Err(Corrupt);
-    }
-    let end = alive + (events + 63) / 64;
-    if !contains(&h[alive..end], e) {
+    if !live.has(h, id)? {
         return Ok(k);
     }
+    let e = id as usize;
     let x = h[axes + 2 * e];
     let z = h[axes + (2 * e + 1)];
     if (x | z) >> room.n != 0 {
@@ -147,14 +142,12 @@ fn keep(
 
 // Whether the events of the 64 numbers from `at` on are live.
 #[tactic(auto, unfolding(model::specs::Events::words))]
-fn all_live(h: &[u64], at: usize, alive: usize, events: usize) -> bool
-    requires { (at + 64 ≤ length h.now) × (alive + words events ≤ at) × (events ≤ at) }
-    ensures { IsTrue result → (j : ℕ) → j < 64 → is_live h.now alive (get_or h.now (at + j) 0) ≡ true }
+fn all_live(h: &[u64], at: usize, live: LiveSet) -> bool
+    requires { (at + 64 ≤ length h.now) × (live.at + words live.events ≤ at) × (live.events ≤ at) }
+    ensures { IsTrue result → (j : ℕ) → j < 64 → is_live h.now live.at (get_or h.now (at + j) 0) ≡ true }
 {
-    let end = alive + (events + 63) / 64;
     for j in 0..64 {
-        let e = h[at + j] as usize;
-        if events <= e || !contains(&h[alive..end], e) {
+        if !live.has(h, h[at + j]).unwrap_or(false) {
             return false;
         }
     }
@@ -163,12 +156,12 @@ fn all_live(h: &[u64], at: usize, alive: usize, events: usize) -> bool
 
 // How many blocks at the front are full of live entries. A rebuild leaves these as they are: what merges away is mostly recent.
 #[tactic(auto, unfolding(model::specs::Events::words))]
-fn settled(h: &[u64], room: ListRoom, len: usize, alive: usize, events: usize) -> usize
-    requires { Spread h.now room.base room.cap room.n × (len ≤ room.cap) × (alive + words events ≤ room.base) × (events ≤ room.base) }
-    ensures { Settled h.now room.base room.cap room.n len alive result }
+fn settled(h: &[u64], room: ListRoom, len: usize, live: LiveSet) -> usize
+    requires { Spread h.now room.base room.cap room.n × (len ≤ room.cap) × (live.at + words live.events ≤ room.base) × (live.events ≤ room.base) }
+    ensures { Settled h.now room.base room.cap room.n len live.at result }
 {
     for b in 0..len / 64 {
-        if h[room.live(b)] != !0 || !all_live(h, room.base + 64 * b, alive, events) {
+        if h[room.live(b)] != !0 || !all_live(h, room.base + 64 * b, live) {
             return b;
         }
     }
@@ -180,18 +173,17 @@ fn rebuild(
     h: &mut [u64],
     room: ListRoom,
     len: usize,
-    alive: usize,
+    live: LiveSet,
     axes: usize,
-    events: usize,
 ) -> Result<usize, Corrupt>
-    requires { Spread h.old room.base room.cap room.n × (len ≤ room.cap) × (alive + words events ≤ room.base) × (axes + 2 * events ≤ room.base) }
-    ensures { Rebuilt h.old room.base room.cap room.n len alive axes events result h.new }
+    requires { Spread h.old room.base room.cap room.n × (len ≤ room.cap) × (live.at + words live.events ≤ room.base) × (axes + 2 * live.events ≤ room.base) }
+    ensures { Rebuilt h.old room.base room.cap room.n len live.at axes live.events result h.new }
 {
-    let front = 64 * settled(h, room, len, alive, events);
+    let front = 64 * settled(h, room, len, live);
     let mut k = front;
     for i in front..len {
         let id = h[room.base + i];
-        k = keep(h, room, k, alive, axes, events, id)?;
+        k = keep(h, room, k, live, axes, id)?;
     }
     Ok(k)
 }
@@ -206,22 +198,21 @@ fn mark_dead(h: &mut [u64], room: ListRoom, pos: usize)
     h[live] &= !(1u64 << (pos % 64));
 }
 
-// The entry of event `id`, no longer in the set of live events at `alive`, is dead: the list is rebuilt from its live entries, whose axes stand
+// The entry of event `id`, no longer in the set of live events, is dead: the list is rebuilt from its live entries, whose axes stand
 // at `axes`, once more than half is dead.
 pub fn kill(
     h: &mut [u64],
     at: usize,
     room: ListRoom,
     id: u64,
-    alive: usize,
+    live: LiveSet,
     axes: usize,
-    events: usize,
 ) -> Result<(), Corrupt>
-    requires { Room h.old at room.base (sliced_room room.cap room.n) × (room.n ≤ 32) × (alive + words events ≤ at) × (axes + 2 * events ≤ at) }
+    requires { Room h.old at room.base (sliced_room room.cap room.n) × (room.n ≤ 32) × (live.at + words live.events ≤ at) × (axes + 2 * live.events ≤ at) }
     ensures long { length h.new ≡ length h.old }
     ensures over { room.cap < get_or h.old at 0 → IsErr result }
     ensures all { get_or h.old at 0 ≤ get_or h.old (at + 1) 0 → IsErr result }
-    ensures done { (m : List Entry) (d pos : ℕ) → Sliced h.old at room.base room.cap room.n m d → d < length m → RisingIds m → Source h.old room.n axes events m → pos < length m → (entry m pos).id ≡ id → IsOk result × SlicedTo h.old at room.base room.cap room.n (killed_at h.old alive d pos m) (still 2 (d + 1) (length m)) h.new }
+    ensures done { (m : List Entry) (d pos : ℕ) → Sliced h.old at room.base room.cap room.n m d → d < length m → RisingIds m → Source h.old room.n axes live.events m → pos < length m → (entry m pos).id ≡ id → IsOk result × SlicedTo h.old at room.base room.cap room.n (killed_at h.old live.at d pos m) (still 2 (d + 1) (length m)) h.new }
 {
     let len = h[at] as usize;
     let dead = h[at + 1] as usize;
@@ -236,7 +227,7 @@ pub fn kill(
         h[at + 1] = (dead + 1) as u64;
         return Ok(());
     }
-    let k = rebuild(h, room, len, alive, axes, events)?;
+    let k = rebuild(h, room, len, live, axes)?;
     h[at] = k as u64;
     h[at + 1] = 0;
     Ok(())

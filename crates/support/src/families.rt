@@ -12,6 +12,7 @@ ghost use Rattle.support.specs.Families.{ScalarRooms, ScalarPushes, ScalarKills,
 ghost use Rattle.support.specs.Runs.{Each, Scans};
 
 use lists::budget::{Budget, Scan};
+use lists::live::LiveSet;
 use lists::scalar::EventWords;
 use pauli::bits::bits;
 use pauli::corrupt::Corrupt;
@@ -180,8 +181,10 @@ impl Lists for ScalarLists {
             self.at + 2 * b,
             self.room(b),
             self.cap,
-            self.alive,
-            events,
+            LiveSet {
+                at: self.alive,
+                events,
+            },
         )
     }
 
@@ -265,9 +268,11 @@ impl Lists for SlicedLists {
             self.at + 2 * b,
             self.room(b),
             id,
-            self.alive,
+            LiveSet {
+                at: self.alive,
+                events,
+            },
             self.axes,
-            events,
         )
     }
 

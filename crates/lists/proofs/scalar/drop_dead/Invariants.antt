@@ -3,4 +3,4 @@ use Rattle.lists.proofs.ScalarLaws.{Dropping}
 use Rattle.lists.proofs.scalar.drop_dead.Given as goal
 
 abbrev pub invariant-loop-i : goal.invariant-loop-i
-invariant-loop-i l = Dropping l.initial.h l.base l.len l.alive l.events l.h l.i l.k
+invariant-loop-i l = Dropping l.initial.h l.base l.len l.live.at l.live.events l.h l.i l.k

@@ -1,21 +1,24 @@
--- `lists::scalar::retain` meets its contract. Assumes nothing.
-use mathlib.Core.Path.{sym, ◌∙◌}
-use Rattle.lists.proofs.ScalarLaws.{part_long, live_part, Retained-live, Retained-dead}
+-- `lists::scalar::retain` meets its contract: the set says whether the event is live, or that there is none. Assumes nothing.
+use mathlib.Core.Path.{ap, ◌∙◌}
+use Rattle.std.specs.Prelude.{Ok, is_err}
+use Rattle.lists.proofs.ScalarLaws.{told, told_none, Retained-bad, Retained-live, Retained-dead}
 use Rattle.lists.proofs.scalar.retain.Goals as goal
 
-pub contains-requires : goal.contains-requires
-contains-requires c =
+pub returns-in_err-has : goal.returns-in_err-has
+returns-in_err-has c =
     let a = c.args in
-    part_long a.h.now a.alive a.base a.k a.id a.events c.if-events-e.false c.requires.1 c.requires.0
+    Retained-bad a.h.now a.base a.k a.live.at a.live.events a.id
+    (told_none a.h.now a.live.at a.live.events a.id c.has.result c.has.ensures.unknown c.has.ensures.known (ap is_err c.in_err-has.was))
+    c.from_residual.result c.from_residual.ensures.0
 
-pub returns-then-contains : goal.returns-then-contains
-returns-then-contains c =
+pub returns-then-branch : goal.returns-then-branch
+returns-then-branch c =
     let a = c.args in
-    Retained-live a.h.now a.base a.k a.alive a.events a.id c.if-events-e.false c.requires.0
-    (sym (c.contains.ensures ∙ live_part a.h.now a.alive a.id) ∙ c.if-contains.true)
+    let t = told a.h.now a.live.at a.live.events a.id c.has.result c.has.ensures.unknown c.has.ensures.known _ (c.in_ok-has.was ∙ ap Ok c.if-branch.true) in
+    Retained-live a.h.now a.base a.k a.live.at a.live.events a.id t.0 c.requires.0 t.1
 
 pub returns : goal.returns
 returns c =
     let a = c.args in
-    Retained-dead a.h.now a.base a.k a.alive a.events a.id c.if-events-e.false
-    (sym (c.contains.ensures ∙ live_part a.h.now a.alive a.id) ∙ c.if-contains.false)
+    let t = told a.h.now a.live.at a.live.events a.id c.has.result c.has.ensures.unknown c.has.ensures.known _ (c.in_ok-has.was ∙ ap Ok c.if-branch.false) in
+    Retained-dead a.h.now a.base a.k a.live.at a.live.events a.id t.0 t.1

@@ -7,4 +7,4 @@ use Rattle.lists.specs.Lists.{is_live}
 use Rattle.sliced.proofs.sliced.all_live.Given as goal
 
 abbrev pub invariant-loop-j : goal.invariant-loop-j
-invariant-loop-j l = (i : ℕ) → i < l.j → is_live l.h l.alive (get_or l.h (l.at + i) 0) ≡ true
+invariant-loop-j l = (i : ℕ) → i < l.j → is_live l.h l.live.at (get_or l.h (l.at + i) 0) ≡ true

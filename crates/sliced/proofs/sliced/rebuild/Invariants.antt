@@ -7,4 +7,4 @@ use Rattle.sliced.proofs.sliced.rebuild.Given as goal
 
 abbrev pub invariant-loop-i : goal.invariant-loop-i
 invariant-loop-i l =
-    (l.k ≤ l.i) × (length l.h ≡ length l.initial.h) × Built l.initial.h l.room.base l.room.cap l.room.n l.len l.alive l.axes l.events l.i l.k l.h
+    (l.k ≤ l.i) × (length l.h ≡ length l.initial.h) × Built l.initial.h l.room.base l.room.cap l.room.n l.len l.live.at l.axes l.live.events l.i l.k l.h
