@@ -11,8 +11,8 @@ fn step(number: u64, after: u64, half: usize) -> usize
     if number <= after { half } else { 0 }
 }
 
-// The place of the first number past `after`, or the length, by halving. No `for`: each turn halves what is left. Not std's `partition_point`:
-// the first entry of a look is looked for here, and this halving tests once a turn (docs/SPEED.md).
+// The place of the first number past `after`, or the length, by halving. No `for`: each turn halves what is left. Std's `partition_point` is
+// no plainer: its clause needs the law of a rising list at each closure, and this halving is one of docs/SPEED.md.
 fn first_after(ids: &[u64], after: u64) -> usize
     ensures within { result ≤ length ids.now }
     ensures splits { Rises ids.now → Splits ids.now after result }

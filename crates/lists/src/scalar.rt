@@ -17,7 +17,8 @@ use pauli::rows::anticommutes;
 
 // ---- recording
 
-// Appends a number, unless the list is full.
+// Appends a number, unless the list is full. (`at`, `base` and `cap` stay three numbers: a struct would be made in support's two calls only to be taken apart
+// here, no plainer.)
 pub fn push(h: &mut [u64], at: usize, base: usize, cap: usize, id: u64) -> Result<(), Corrupt>
     requires { Room h.old at base cap }
     ensures long { length h.new ≡ length h.old }
@@ -47,6 +48,8 @@ fn retain(h: &mut [u64], base: usize, k: usize, live: LiveSet, id: u64) -> Resul
     Ok(k)
 }
 
+// Its like in sliced (`keep`, `rebuild`, `kill`) writes an entry's masks too and leaves settled blocks in place: one function for both would be
+// handed what to write and where to begin as closures over the lent words, no plainer.
 // Drops the numbers whose events are dead; the answer is how many are left.
 fn drop_dead(h: &mut [u64], base: usize, len: usize, live: LiveSet) -> Result<usize, Corrupt>
     requires { (base + len ≤ length h.old) × (live.at + words live.events ≤ base) }
@@ -101,6 +104,7 @@ pub struct EventWords {
     pub count: usize,
 }
 
+// Six parameters: the words, the axis, the two halves of a test worked out once for a scan, and the event. No two travel together elsewhere.
 // Whether the event `id`, in list `bit`, is to be tested there and anticommutes with the axis. `wanted` are the bits of the axis's signature
 // up to `bit`: the event is tested where that one, `this`, is the first that it shares. A dead event shares none.
 fn meets(
@@ -125,7 +129,8 @@ fn meets(
     Ok(anticommutes(&h[from..from + words], axis))
 }
 
-// List `bit`'s entries after the event `after`, 1 step each: the allowance bounds where the walk ends.
+// List `bit`'s entries after the event `after`, 1 step each: the allowance bounds where the walk ends. (Nine parameters: the room, the events, the
+// axis with its signature, and the look's two numbers. A struct of them would be made for this call alone, no plainer.)
 pub fn scan(
     h: &[u64],
     base: usize,

@@ -20,7 +20,8 @@ fn gather<const B: usize>(masks: &[u64], n: usize, set: u64, odd: usize) -> [u64
     acc
 }
 
-// A word for each of B blocks, whose masks stand side by side: digit i is 1 where entry i of the block anticommutes with the axis (ax, az).
+// A word for each of B blocks, whose masks stand side by side: digit i is 1 where entry i of the block anticommutes with the axis (ax, az)
+// (two numbers, as in sliced.rt).
 pub fn anticommuting<const B: usize>(masks: &[u64], n: usize, ax: u64, az: u64) -> [u64; B]
     requires { (B * (2 * n) ≤ length masks.now) × (ax < 2 ^ n) × (az < 2 ^ n) }
     ensures { (b : ℕ) → b < B → Marks masks.now (b * (2 * n)) n ax az (slice_index result b) }

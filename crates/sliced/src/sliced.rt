@@ -73,7 +73,8 @@ fn prepare(h: &mut [u64], room: ListRoom, len: usize)
     }
 }
 
-// Puts an entry with the axis (x, z) behind the first len.
+// Puts an entry with the axis (x, z) behind the first len. (An axis of the sliced form is two words of the lent slice: here and below they stay two
+// numbers, since a struct of them would be made only to be taken apart, no plainer.)
 #[tactic(auto, unfolding(model::specs::Events::words))]
 fn append(h: &mut [u64], room: ListRoom, len: usize, id: u64, x: u64, z: u64)
     requires { Spread h.old room.base room.cap room.n × (len < room.cap) × (x < 2 ^ room.n) × (z < 2 ^ room.n) }

@@ -31,6 +31,7 @@ pub trait Lists {
     // the words have room for the lists, behind what is kept of so many events
     ghost can_kill: { Self → List ℕ → ℕ → Type 0 };
 
+    // the words have room for the lists, what is kept of so many events stands in them, and the axis is one that they take
     ghost can_scan: { Self → List ℕ → ℕ → List ℕ → Type 0 };
 
     // a call for list b: which event or which axis, the words before and after, and the answer
@@ -52,7 +53,8 @@ pub trait Lists {
         ensures long { length h.new ≡ length h.old }
         ensures done { kills self.now b id events h.old h.new result };
 
-    // The entries of list b after the event `after`; sig is the signature of the axis.
+    // The entries of list b after the event `after`; sig is the signature of the axis. (A look's own parameters, handed on: a struct of them would be
+    // made and taken apart on each list, no plainer.)
     fn scan(
         &self,
         h: &[u64],
