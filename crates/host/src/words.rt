@@ -1,9 +1,11 @@
 // An answer as a number and, where it says more, as words of the caller's.
 ghost use Rattle.std.specs.Prelude.{◌≡◌, ◌∷◌, ◌≤◌, length, drop};
-ghost use Rattle.store.specs.Promises.{told_open, told_done, told_first, told_read, told_look, number};
+ghost use Rattle.store.specs.Promises.{told_open, told_done, told_first, told_read, told_look, seen_of, number};
+ghost use Rattle.model.specs.Calls.{looked};
 ghost use Rattle.host.specs.Host.{sign_word, bit, first_of, words_of};
 
-use store::answers::{Reading, Sight};
+use history::events::Rotation;
+use history::findings::{Found, Look};
 use store::refusals::{OpenError, Refusal};
 
 // 01's number of an opening.
@@ -63,34 +65,45 @@ pub fn bit_word(b: bool) -> u64
 }
 
 // The four words of a look into the first of `says`; of a refusal none.
-pub fn sight_into(a: Sight, says: &mut [u64]) -> u32
+pub fn sight_into(a: Result<Look, Refusal>, says: &mut [u64]) -> u32
     requires { 4 ≤ length says.old }
     ensures value { result ≡ number (told_look a) }
     ensures says_after { says.new ≡ words_of (told_look a) says.old }
 {
     match a {
-        Sight::Found { id, sign, steps } => write(says, 1, id as u64, sign_word(sign), steps),
-        Sight::Nothing(steps) => write(says, 0, 0, 0, steps),
-        Sight::Blocked(steps) => write(says, 2, 0, 0, steps),
-        Sight::Out(steps) => write(says, 3, 0, 0, steps),
-        Sight::Refused(k) => k,
+        Ok(look) => seen_into(look, says),
+        Err(e) => e.code(),
+    }
+}
+
+#[tactic(auto, unfolding(store::specs::Promises::number))]
+fn seen_into(look: Look, says: &mut [u64]) -> u32
+    requires { 4 ≤ length says.old }
+    ensures value { result ≡ 0 }
+    ensures says_after { says.new ≡ words_of (looked (seen_of look.found look.steps)) says.old }
+{
+    match look.found {
+        Found::Partner { id, sign } => write(says, 1, id as u64, sign_word(sign), look.steps),
+        Found::Nothing => write(says, 0, 0, 0, look.steps),
+        Found::Blocked => write(says, 2, 0, 0, look.steps),
+        Found::OutOfSteps => write(says, 3, 0, 0, look.steps),
     }
 }
 
 // Three words into the first of `says`, for a read.
-pub fn reading_into(a: Reading, says: &mut [u64]) -> u32
+pub fn reading_into(a: Result<Rotation, Refusal>, says: &mut [u64]) -> u32
     requires { 3 ≤ length says.old }
     ensures value { result ≡ number (told_read a) }
     ensures says_after { says.new ≡ words_of (told_read a) says.old }
 {
     match a {
-        Reading::Says { tag, sign, live } => {
-            says[0] = tag as u64;
-            says[1] = sign_word(sign);
-            says[2] = bit_word(live);
+        Ok(rotation) => {
+            says[0] = rotation.tag as u64;
+            says[1] = sign_word(rotation.sign);
+            says[2] = bit_word(rotation.live);
             0
         }
-        Reading::Refused(k) => k,
+        Err(e) => e.code(),
     }
 }
 

@@ -10,10 +10,11 @@ ghost use Rattle.partner.specs.Calls.{call_in};
 
 use frame::axes::Kind;
 use gating::gates::Gate;
+use history::events::Rotation;
+use history::findings::Look;
 use history::forms::Form;
 use marking::calls::enroll;
 use marking::events::Mark;
-use store::answers::{Reading, Sight};
 use store::refusals::{OpenError, Refusal};
 
 // ---- opening
@@ -103,14 +104,14 @@ pub fn clear(s: &mut [u64]) -> Result<(), Refusal>
 // ---- questions
 
 // The tag and the sign of a rotation, and whether it is live. Refuses with 7 (no such event or a blocker).
-pub fn read(s: &[u64], id: usize) -> Reading
+pub fn read(s: &[u64], id: usize) -> Result<Rotation, Refusal>
     ensures { Answers (call_read id) s.now (told_read result) }
 {
     seeking::events::read(s, id)
 }
 
 // Looks for the partner of a rotation of a kind about qubit q. Refuses with 4.
-pub fn look(s: &[u64], kind: Kind, q: usize) -> Sight
+pub fn look(s: &[u64], kind: Kind, q: usize) -> Result<Look, Refusal>
     ensures { Answers (call_look (kind_of kind) q) s.now (told_look result) }
 {
     seeking::looks::look(s, kind, q)

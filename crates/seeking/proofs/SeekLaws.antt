@@ -9,8 +9,7 @@ use native.Mathlib.Omega.{arith}
 use lib.ListN.{length, get_or}
 use lib.IntN.{ℤ, pos, negsuc, neg_ℤ, ◌*ℤ◌}
 use mir.Syntax.{w8}
-use mir.Val.{SFits, of_z}
-use mir.ValLaws.{to_z-of_z}
+use mir.Val.{of_z}
 use Rattle.model.specs.Pauli.{Pauli, sign}
 use Rattle.model.specs.Frame as model
 use Rattle.model.specs.Frame.{Rows, axis, paulis}
@@ -48,11 +47,11 @@ use Rattle.history.specs.declared.findings.Found.TheVariants as found_here
 use Rattle.history.proofs.EventLaws.{rotation_Tells}
 use Rattle.history.proofs.LookLaws.{sign_bits, stopped_there}
 use Rattle.store.specs.declared.header.Sizes.{Sizes}
-use Rattle.store.specs.declared.answers.Sight.{Sight}
-use Rattle.store.specs.declared.answers.Sight.TheVariants as sight
+use Rattle.store.specs.declared.refusals.Refusal.{Refusal}
+use Rattle.store.specs.declared.refusals.Refusal.TheVariants as refusal
 use Rattle.store.specs.Stores.{Stored, Held, StoredTo}
 use Rattle.store.specs.Checks.{Fit}
-use Rattle.store.specs.Promises.{number, turn_known, told_look, qubit_number, Answers, Meets}
+use Rattle.store.specs.Promises.{number, turn_known, told_read, told_look, seen_of, qubit_number, Answers, Meets}
 use Rattle.store.proofs.QubitLaws.{single_out, single_in}
 use Rattle.store.proofs.SizeLaws.{Own, own}
 use Rattle.store.proofs.StoreLaws.{killed_to, cleared_to}
@@ -172,14 +171,12 @@ module _ (z : Sizes) (s : List ℕ) (fit : Fit z s) (id : ℕ) (r : Result (Opti
   reads m held true q = nothing (form_of z.form) z.n m (lent-Holds z s fit m held.stored) (Held-Sane m s held) q
   reads m held false q = tells (form_of z.form) z.n m (lent-Holds z s fit m held.stored) (Held-Sane m s held) q
 
-  -- the sign is what the machine reads off its bits
-  pub read_Says : (w : Rotation) → SFits w8 w.sign → r ≡ Ok (Some w)
-      → Answers (call_read id) s (says (record { tag = w.tag; sgn = bits8 w.sign; live = w.live }))
-  unfolding answer_to reply_of number
-  read_Says w small e = accept_Answers (call_read id) s fit.framing.enough _ (omega arith) (λ m held.
+  pub read_Says : (w : Rotation) → r ≡ Ok (Some w) → Answers (call_read id) s (told_read (Ok w))
+  unfolding answer_to reply_of number told_read
+  read_Says w e = accept_Answers (call_read id) s fit.framing.enough _ (omega arith) (λ m held.
       let k = go m (not_readable m.events id) refl (reads m held (not_readable m.events id) refl) in (
         answer_event z s fit m held.stored (not_readable m.events id) ∙ ap (λ (b : Bool). cond b 7 0) k.0,
-        ap (λ (g : ℤ). says (record { tag = w.tag; sgn = g; live = w.live })) (to_z-of_z w8 w.sign small) ∙ told_reading (reading m.events id) w k.1,
+        told_reading (reading m.events id) w k.1,
       ))
     where
       go : (m : State) (b : Bool) → not_readable m.events id ≡ b → Reads m b → (not_readable m.events id ≡ false) × (w ≡ rotation_of (reading m.events id))
@@ -210,24 +207,24 @@ module _ (z : Sizes) (s : List ℕ) (fit : Fit z s) (id : ℕ) (r : Result (Opti
 
 -- the sign that a partner keeps, and the row's own: r is what is told of the row's sign
 module _ (row : List ℕ) (r : Option ℤ) (signs : (l : ℕ) (p : Pauli) → length row ≡ 2 * l + 1 → IsRow l row 0 p → r ≡ rows.answer (sign p)) (id n : ℕ) (kept : ℤ) where
-  abbrev Relative : Sight → Type 0
+  abbrev Relative : Result seen.Look Refusal → Type 0
   Relative v = (l : ℕ) (p : Pauli) → length row ≡ 2 * l + 1 → IsRow l row 0 p → HasSign p → IsSign kept → told_look v ≡ looked (found id (kept *ℤ sign p) n)
 
   -- "0 gives +1, 2 gives -1, and 1 or 3 never occurs"
-  pub Relative-none : r ≡ None → Relative (sight.Refused 9)
+  pub Relative-none : r ≡ None → Relative (Err refusal.Corrupt)
   Relative-none e l p long i s t = absurd (some_sign (sign p) s (sym e ∙ signs l p long i))
 
   module _ (own : ℤ) (signed : IsSign own) (e : r ≡ Some own) where
-    Relative-is : (both : ℤ) → (IsSign kept → both ≡ kept *ℤ own) → Relative (sight.Found id both n)
-    unfolding told_look
+    Relative-is : (both : ℤ) → (IsSign kept → both ≡ kept *ℤ own) → Relative (Ok (record { found = found_here.Partner id both; steps = n }))
+    unfolding told_look seen_of
     Relative-is both f l p long i s t = ap (λ (k : ℤ). looked (found id k n)) (f t ∙ ap (λ (k : ℤ). kept *ℤ k) (is_sign (sign p) own s (sym e ∙ signs l p long i)))
 
-    pub Relative-same : of_z w8 kept ≡ 1 → Relative (sight.Found id (bits8 own) n)
+    pub Relative-same : of_z w8 kept ≡ 1 → Relative (Ok (record { found = found_here.Partner id (bits8 own); steps = n }))
     Relative-same k = Relative-is (bits8 own) (λ t.
         sign_cases (λ (a : ℤ). of_z w8 a ≡ 1 → bits8 own ≡ a *ℤ own) (λ u. sign_cases (λ (b : ℤ). bits8 b ≡ pos 1 *ℤ b) refl refl own signed)
         (λ u. let v : ◌≡◌ {A = ℕ} 255 1 = u in absurd (omega arith)) kept t k)
 
-    pub Relative-other : (other : ℤ) → other ≡ neg_ℤ (bits8 own) → IsSign other → (of_z w8 kept ≡ 1 → ⊥) → Relative (sight.Found id (bits8 other) n)
+    pub Relative-other : (other : ℤ) → other ≡ neg_ℤ (bits8 own) → IsSign other → (of_z w8 kept ≡ 1 → ⊥) → Relative (Ok (record { found = found_here.Partner id (bits8 other); steps = n }))
     Relative-other other o s k = Relative-is (bits8 other) (λ t.
         bits8_sign other s ∙ o
         ∙ sign_cases (λ (a : ℤ). (of_z w8 a ≡ 1 → ⊥) → neg_ℤ (bits8 own) ≡ a *ℤ own) (λ u. absurd (u refl))
@@ -240,6 +237,17 @@ unfolding sight_of found_of
 sight_Found v id g h a e s f =
     let t : IsSign g = rw e at s in
     f (sign_bits g t) ∙ ap (λ (k : ℤ). looked (found id (k *ℤ h) v.steps)) (bits8_sign g t) ∙ sym (ap (λ (w : Found). looked (found_of h w v.steps)) e)
+
+-- and what is no partner has no sign
+pub other_seen : (g : ℤ) (v : seen.Look) → ((id : ℕ) (k : ℤ) → v.found ≡ found_here.Partner id k → ⊥) → told_look (Ok v) ≡ sight_of g v
+unfolding sight_of told_look seen_of found_of
+other_seen g v h = ap looked (go v.found h)
+  where
+    go : (f : Found) → ((id : ℕ) (k : ℤ) → f ≡ found_here.Partner id k → ⊥) → seen_of f v.steps ≡ found_of g f v.steps
+    go (found_here.Partner id k) h = absurd (h id k refl)
+    go found_here.Nothing h = refl
+    go found_here.Blocked h = refl
+    go found_here.OutOfSteps h = refl
 
 -- A look for the axis taken with the sign +1, and one for the axis with the sign g: a partner has the sign that it keeps in the first, and its
 -- product with g in the second.

@@ -4,7 +4,6 @@ ghost use Rattle.model.specs.Calls.{call_kill, call_clear, call_read};
 ghost use Rattle.store.specs.Promises.{told_done, told_read, Answers, Meets};
 
 use history::events::Rotation;
-use store::answers::Reading;
 use store::header::{check, sizes_of};
 use store::refusals::Refusal;
 
@@ -28,18 +27,13 @@ pub fn clear(s: &mut [u64]) -> Result<(), Refusal>
 }
 
 // The tag and the sign of the rotation `id`, and whether it is live. "7: no such event or a blocker"
-pub fn read(s: &[u64], id: usize) -> Reading
+pub fn read(s: &[u64], id: usize) -> Result<Rotation, Refusal>
     ensures { Answers (call_read id) s.now (told_read result) }
 {
-    match check(s) {
-        Err(e) => Reading::Refused(e.code()),
-        Ok(_) => {
-            let z = sizes_of(s);
-            match history::events::read(&s[z.at..z.end], &z.layout(), id) {
-                Ok(Some(Rotation { tag, sign, live })) => Reading::Says { tag, sign, live },
-                Ok(None) => Reading::Refused(7),
-                Err(_) => Reading::Refused(9),
-            }
-        }
+    check(s)?;
+    let z = sizes_of(s);
+    match history::events::read(&s[z.at..z.end], &z.layout(), id)? {
+        Some(rotation) => Ok(rotation),
+        None => Err(Refusal::NoSuchEvent),
     }
 }

@@ -10,210 +10,123 @@ ghost use Rattle.model.specs.Calls.{looked, call_look};
 ghost use Rattle.frame.specs.Places.{IsRow};
 ghost use Rattle.frame.specs.Axes.{kind_of, axis_of};
 ghost use Rattle.store.specs.Stores.{Held};
-ghost use Rattle.store.specs.Checks.{Fit, sizes};
-ghost use Rattle.store.specs.Promises.{number, told_look, Answers};
+ghost use Rattle.store.specs.Checks.{Fit};
+ghost use Rattle.store.specs.Promises.{told_look, Answers};
 ghost use Rattle.seeking.specs.Sights.{SignSeen, sight_of};
 
-use frame::axes::{Basis, Kind, axis_row, label, row_sign, y_product};
+use frame::axes::{Basis, Kind, Tag, axis_row, label, row_sign, y_product};
 use history::findings::{Found, Look};
-use history::forms::Form;
 use history::layout::Layout;
 use pauli::rows::opposite;
-use store::answers::Sight;
 use store::header::{Sizes, check, sizes_of};
+use store::refusals::Refusal;
 
-// The partner `id` as the answer of a look: the relative sign is the product of the sign it keeps and the row's own. Only here is the row's sign
+// The partner `id` as what a look sees: the relative sign is the product of the sign it keeps and the row's own. Only here is the row's sign
 // worked out, which takes a walk over its words. That `kept` is a sign is known of words that hold a state, so it is compared and not multiplied.
-#[tactic(auto, unfolding(store::specs::Promises::told_look, store::specs::Promises::number))]
-fn relative(id: usize, kept: i8, steps: u32, row: &[u64]) -> Sight
+fn relative(id: usize, kept: i8, steps: u32, row: &[u64]) -> Result<Look, Refusal>
     requires { length row.now % 2 ≡ 1 }
-    ensures few { number (told_look result) ≤ 9 }
-    ensures says { (l : ℕ) (p : Pauli) → length row.now ≡ 2 * l + 1 → IsRow l row.now 0 p → HasSign p → IsSign kept → told_look result ≡ looked (found id (kept *ℤ sign p) steps) }
+    ensures { (l : ℕ) (p : Pauli) → length row.now ≡ 2 * l + 1 → IsRow l row.now 0 p → HasSign p → IsSign kept → told_look result ≡ looked (found id (kept *ℤ sign p) steps) }
 {
     match row_sign(row) {
-        None => Sight::Refused(9),
+        None => Err(Refusal::Corrupt),
         Some(own) => {
-            let both = if kept == 1 { own } else { opposite(own) };
-            Sight::Found {
-                id: id,
-                sign: both,
-                steps: steps,
-            }
+            let sign = if kept == 1 { own } else { opposite(own) };
+            let found = Found::Partner { id, sign };
+            Ok(Look { found, steps })
         }
     }
 }
 
-// What the history saw of the row's axis taken with the sign +1, as the answer of a look.
-fn sight(seen: Look, row: &[u64]) -> Sight
+// What the history saw of the row's axis taken with the sign +1, as what a look sees.
+fn sight(seen: Look, row: &[u64]) -> Result<Look, Refusal>
     requires { length row.now % 2 ≡ 1 }
-    ensures few { number (told_look result) ≤ 9 }
-    ensures says { (l : ℕ) (p : Pauli) → length row.now ≡ 2 * l + 1 → IsRow l row.now 0 p → HasSign p → SignSeen seen → told_look result ≡ sight_of (sign p) seen }
+    ensures { (l : ℕ) (p : Pauli) → length row.now ≡ 2 * l + 1 → IsRow l row.now 0 p → HasSign p → SignSeen seen → told_look result ≡ sight_of (sign p) seen }
 {
-    let steps = seen.steps;
     match seen.found {
-        Found::Partner { id, sign } => relative(id, sign, steps, row),
-        Found::Nothing => Sight::Nothing(steps),
-        Found::Blocked => Sight::Blocked(steps),
-        Found::OutOfSteps => Sight::Out(steps),
+        Found::Partner { id, sign } => relative(id, sign, seen.steps, row),
+        _ => Ok(seen),
     }
 }
 
 // The look for the axis of a kind, which is the row given, phase first.
-fn sought(
-    s: &[u64],
-    n: usize,
-    l: usize,
-    form: Form,
-    cap: usize,
-    allowance: u32,
-    at: usize,
-    end: usize,
-    kind: Kind,
-    q: usize,
-    row: &[u64],
-) -> Sight
-    requires { Fit (sizes n l form cap allowance at end) s.now × (q < n) × (length row.now ≡ 2 * l + 1) }
-    ensures few { number (told_look result) ≤ 9 }
-    ensures says { (m : State) → Held m s.now → IsRow l row.now 0 (axis paulis (kind_of kind) q m.frame) → told_look result ≡ looked (look (kind_of kind) q m) }
+fn sought(s: &[u64], z: &Sizes, kind: Kind, q: usize, row: &[u64]) -> Result<Look, Refusal>
+    requires { Fit z.now s.now × (q < z.now.n) × (length row.now ≡ 2 * z.now.l + 1) }
+    ensures { (m : State) → Held m s.now → IsRow z.now.l row.now 0 (axis paulis (kind_of kind) q m.frame) → told_look result ≡ looked (look (kind_of kind) q m) }
 {
-    let tag = label(&s[14..at], n, l, kind, q);
+    let Tag { high, low } = label(&s[14..z.at], z.n, z.l, kind, q);
+    let Sizes {
+        form,
+        n,
+        l,
+        cap,
+        ..
+    } = *z;
     let layout = Layout { form, n, l, cap };
-    match history::looks::look(
-        &s[at..end],
+    let seen = history::looks::look(
+        &s[z.at..z.end],
         &layout,
         &row[1..],
         1,
-        tag.high,
-        tag.low,
-        allowance,
-    ) {
-        Ok(seen) => sight(seen, row),
-        Err(_) => Sight::Refused(9),
-    }
+        high,
+        low,
+        z.allowance,
+    )?;
+    sight(seen, row)
 }
 
 // The look for the axis y, whose row is written to `out`.
-fn sought_y(
-    s: &[u64],
-    n: usize,
-    l: usize,
-    form: Form,
-    cap: usize,
-    allowance: u32,
-    at: usize,
-    end: usize,
-    q: usize,
-    out: &mut [u64],
-) -> Sight
-    requires { Fit (sizes n l form cap allowance at end) s.now × (q < n) × (length out.old ≡ 2 * l + 1) }
-    ensures few { number (told_look result) ≤ 9 }
-    ensures says { (m : State) → Held m s.now → told_look result ≡ looked (look kind_y q m) }
+fn sought_y(s: &[u64], z: &Sizes, q: usize, out: &mut [u64]) -> Result<Look, Refusal>
+    requires { Fit z.now s.now × (q < z.now.n) × (length out.old ≡ 2 * z.now.l + 1) }
+    ensures { (m : State) → Held m s.now → told_look result ≡ looked (look kind_y q m) }
 {
-    match y_product(&s[14..at], n, l, q, out) {
-        Ok(()) => sought(s, n, l, form, cap, allowance, at, end, Kind::Y, q, out),
-        Err(_) => Sight::Refused(9),
-    }
+    y_product(&s[14..z.at], z.n, z.l, q, out)?;
+    sought(s, z, Kind::Y, q, out)
 }
 
-// The same with a row of its own: up to 192 qubits no large one is cleared.
-fn narrow_y(s: &[u64], z: Sizes, q: usize) -> Sight
-    requires { Fit z s.now × (q < z.n) × (z.l ≤ 3) }
-    ensures few { number (told_look result) ≤ 9 }
-    ensures says { (m : State) → Held m s.now → told_look result ≡ looked (look kind_y q m) }
+// The same with a row of WORDS words of its own: that many are cleared for it.
+fn with_row<const WORDS: usize>(s: &[u64], z: &Sizes, q: usize) -> Result<Look, Refusal>
+    requires { Fit z.now s.now × (q < z.now.n) × (2 * z.now.l + 1 ≤ WORDS) × (WORDS ≤ 725) }
+    ensures { (m : State) → Held m s.now → told_look result ≡ looked (look kind_y q m) }
 {
-    let mut out = [0u64; 7];
-    let form = z.form;
-    let words = 2 * z.l + 1;
-    sought_y(
-        s,
-        z.n,
-        z.l,
-        form,
-        z.cap,
-        z.allowance,
-        z.at,
-        z.end,
-        q,
-        &mut out[..words],
-    )
-}
-
-fn wide_y(s: &[u64], z: Sizes, q: usize) -> Sight
-    requires { Fit z s.now × (q < z.n) }
-    ensures few { number (told_look result) ≤ 9 }
-    ensures says { (m : State) → Held m s.now → told_look result ≡ looked (look kind_y q m) }
-{
-    let mut out = [0u64; 725];
-    let form = z.form;
-    let words = 2 * z.l + 1;
-    sought_y(
-        s,
-        z.n,
-        z.l,
-        form,
-        z.cap,
-        z.allowance,
-        z.at,
-        z.end,
-        q,
-        &mut out[..words],
-    )
+    let mut row = [0u64; WORDS];
+    let out = &mut row[..];
+    sought_y(s, z, q, &mut out[..2 * z.l + 1])
 }
 
 // The look for the axis x or z, whose row is read in place.
-fn in_place(s: &[u64], z: Sizes, basis: Basis, kind: Kind, q: usize) -> Sight
-    requires { Fit z s.now × (q < z.n) }
-    ensures few { number (told_look result) ≤ 9 }
-    ensures says { (m : State) → Held m s.now → ((row : List ℕ) → IsRow z.l row 0 (axis_of basis m.frame q) → IsRow z.l row 0 (axis paulis (kind_of kind) q m.frame)) → told_look result ≡ looked (look (kind_of kind) q m) }
+fn in_place(s: &[u64], z: &Sizes, basis: Basis, kind: Kind, q: usize) -> Result<Look, Refusal>
+    requires { Fit z.now s.now × (q < z.now.n) }
+    ensures { (m : State) → Held m s.now → ((row : List ℕ) → IsRow z.now.l row 0 (axis_of basis m.frame q) → IsRow z.now.l row 0 (axis paulis (kind_of kind) q m.frame)) → told_look result ≡ looked (look (kind_of kind) q m) }
 {
-    let at = z.at;
-    let form = z.form;
-    sought(
-        s,
-        z.n,
-        z.l,
-        form,
-        z.cap,
-        z.allowance,
-        z.at,
-        z.end,
-        kind,
-        q,
-        axis_row(&s[14..at], z.n, z.l, basis, q),
-    )
+    sought(s, z, kind, q, axis_row(&s[14..z.at], z.n, z.l, basis, q))
 }
 
-// The look, by its kind.
-fn sought_kind(s: &[u64], z: Sizes, kind: Kind, q: usize) -> Sight
-    requires { Fit z s.now × (q < z.n) }
-    ensures few { number (told_look result) ≤ 9 }
-    ensures says { (m : State) → Held m s.now → told_look result ≡ looked (look (kind_of kind) q m) }
+// The look, by its kind. Up to 192 qubits the axis y has a short row.
+fn sought_kind(s: &[u64], z: &Sizes, kind: Kind, q: usize) -> Result<Look, Refusal>
+    requires { Fit z.now s.now × (q < z.now.n) }
+    ensures { (m : State) → Held m s.now → told_look result ≡ looked (look (kind_of kind) q m) }
 {
     match kind {
         Kind::X => in_place(s, z, Basis::X, kind, q),
         Kind::Y => {
             if z.l <= 3 {
-                return narrow_y(s, z, q);
+                with_row::<7>(s, z, q)
+            } else {
+                with_row::<725>(s, z, q)
             }
-            wide_y(s, z, q)
         }
-        Kind::Z => in_place(s, z, Basis::Z, kind, q),
-        Kind::P => in_place(s, z, Basis::Z, kind, q),
+        Kind::Z | Kind::P => in_place(s, z, Basis::Z, kind, q),
     }
 }
 
 // Looks for a partner of the rotation of a kind about qubit q.
-pub fn look(s: &[u64], kind: Kind, q: usize) -> Sight
+pub fn look(s: &[u64], kind: Kind, q: usize) -> Result<Look, Refusal>
     ensures { Answers (call_look (kind_of kind) q) s.now (told_look result) }
 {
-    match check(s) {
-        Err(e) => Sight::Refused(e.code()),
-        Ok(_) => {
-            let z = sizes_of(s);
-            if z.n <= q {
-                return Sight::Refused(4);
-            }
-            sought_kind(s, z, kind, q)
-        }
+    check(s)?;
+    let z = sizes_of(s);
+    if z.n <= q {
+        return Err(Refusal::NoSuchQubit);
     }
+    sought_kind(s, &z, kind, q)
 }

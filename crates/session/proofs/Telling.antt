@@ -27,7 +27,7 @@ use Rattle.store.specs.Promises.{number, told, told_open, told_look, Answers, Me
 use Rattle.std.specs.Prelude.{Option, Some, None, Result, Ok, Err}
 use Rattle.store.specs.declared.refusals.Refusal.{Refusal}
 use Rattle.store.specs.declared.refusals.OpenError.{OpenError}
-use Rattle.store.specs.declared.answers.Sight.{Sight}
+use Rattle.history.specs.declared.findings.Look as seen
 use Rattle.store.proofs.LentLaws.{Held-Good}
 use Rattle.model.proofs.Stay.{record_given}
 use Rattle.partner.specs.Calls.{call_in}
@@ -193,7 +193,7 @@ module _ (ln e l : ℕ) (c : Call) (store out : List ℕ) (a : Result (Option �
     );
   }
 
-module _ (ln e l : ℕ) (kind : Kind) (q : ℕ) (store out : List ℕ) (sight : Sight) (n : ℕ) (out' : List ℕ) (size : length store ≡ room) (wide : 128 ≤ length out)
+module _ (ln e l : ℕ) (kind : Kind) (q : ℕ) (store out : List ℕ) (sight : Result seen.Look Refusal) (n : ℕ) (out' : List ℕ) (size : length store ≡ room) (wide : 128 ≤ length out)
     (answers : Answers (model.call_look (kind_of kind) q) store (told_look sight)) (wrote : Wrote out 0 (spoken (replied ln (told_look sight))) out' n) where
   pub look_Does : Does (answered_by ln (model.call_look (kind_of kind) q)) e l store out (runs.On (at.Running e l) n) store out'
   look_Does = record {

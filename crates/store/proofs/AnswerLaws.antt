@@ -13,7 +13,9 @@ use Rattle.store.specs.Stores.{Stored}
 use Rattle.store.specs.declared.refusals.Refusal.{Refusal}
 use Rattle.store.specs.declared.refusals.Refusal.TheVariants.{TooShort, NoSuchQubit, SameQubit, Full, NoSuchEvent, Turn, Corrupt}
 use Rattle.store.specs.Refusals.{code_of}
-use Rattle.store.specs.Promises.{turn_known, qubit_number}
+use Rattle.std.proofs.Common.{Result, Ok, Err}
+use Rattle.history.specs.declared.findings.Look.{Look}
+use Rattle.store.specs.Promises.{turn_known, qubit_number, number, told_look}
 
 -- what is left of the answer once the qubits are there and differ
 unfoldable pub last_number : State → (records : ℕ) → (bad : Bool) → ℕ
@@ -83,3 +85,17 @@ code_some Full = omega arith
 code_some NoSuchEvent = omega arith
 code_some Turn = omega arith
 code_some Corrupt = omega arith
+
+pub code_few : (e : Refusal) → code_of e ≤ 9
+code_few TooShort = omega arith
+code_few NoSuchQubit = omega arith
+code_few SameQubit = omega arith
+code_few Full = omega arith
+code_few NoSuchEvent = omega arith
+code_few Turn = omega arith
+code_few Corrupt = omega arith
+
+pub look_few : (r : Result Look Refusal) → number (told_look r) ≤ 9
+unfolding number told_look
+look_few (Ok a) = omega arith
+look_few (Err e) = code_few e

@@ -3,15 +3,15 @@
 -- the answer is `model`'s, and every word is the new state's or, where that relies on none, as at entry. Assumes nothing.
 use Rattle.std.specs.Prelude.{◌≡◌, Option, Some, None, Result, Ok, Err, Bool, cond, ◌||◌, List, ℕ, ◌≤◌, ◌<◌, length, get_or, eqb, leb}
 use Rattle.model.specs.Events.{Opening, State, some}
-use Rattle.model.specs.Search.{found, none, blocked, out}
+use Rattle.model.specs.Search as model
 use Rattle.model.specs.Calls.{Call, Reply, refused, accepted, recorded, says, looked, open_answer, opened, twice, reply, call}
 use Rattle.store.specs.declared.refusals.OpenError.{OpenError}
 use Rattle.store.specs.declared.refusals.Refusal.{Refusal}
 use Rattle.store.specs.Refusals.{code_of, open_code_of}
-use Rattle.store.specs.declared.answers.Reading.{Reading}
-use Rattle.store.specs.declared.answers.Reading.TheVariants as reading
-use Rattle.store.specs.declared.answers.Sight.{Sight}
-use Rattle.store.specs.declared.answers.Sight.TheVariants as sight
+use Rattle.history.specs.declared.events.Rotation.{Rotation}
+use Rattle.history.specs.declared.findings.Look.{Look}
+use Rattle.history.specs.declared.findings.Found.{Found}
+use Rattle.history.specs.declared.findings.Found.TheVariants.{Partner, Nothing, Blocked, OutOfSteps}
 use Rattle.store.specs.Stores.{Held, HeldTo}
 
 -- ---- 01's number and values for each case of an answer
@@ -43,16 +43,19 @@ told (Ok (Some id)) = recorded id
 told (Err e) = refused (code_of e)
 
 -- of a read and of a look
-unfoldable pub told_read : Reading → Reply
-told_read (reading.Says tag sgn live) = says (record { tag = tag; sgn = sgn; live = live })
-told_read (reading.Refused k) = refused k
+unfoldable pub told_read : Result Rotation Refusal → Reply
+told_read (Ok v) = says (record { tag = v.tag; sgn = v.sign; live = v.live })
+told_read (Err e) = refused (code_of e)
 
-unfoldable pub told_look : Sight → Reply
-told_look (sight.Found id sgn n) = looked (found id sgn n)
-told_look (sight.Nothing n) = looked (none n)
-told_look (sight.Blocked n) = looked (blocked n)
-told_look (sight.Out n) = looked (out n)
-told_look (sight.Refused k) = refused k
+unfoldable pub seen_of : Found → (steps : ℕ) → model.Look
+seen_of (Partner id sgn) n = model.found id sgn n
+seen_of Nothing n = model.none n
+seen_of Blocked n = model.blocked n
+seen_of OutOfSteps n = model.out n
+
+unfoldable pub told_look : Result Look Refusal → Reply
+told_look (Ok a) = looked (seen_of a.found a.steps)
+told_look (Err e) = refused (code_of e)
 
 -- 8 is given for "a turn other than 0, 2, 4, 6"
 unfoldable pub turn_known : (k : ℕ) → Bool

@@ -2,7 +2,6 @@
 // tzap, Apache-2.0 (NOTICE): what `Folder::new` of src/phase_fold_pauli.rs allocates stands here in words that the caller lends.
 #![tactic(auto)]
 
-pub mod answers;
 pub mod header;
 pub mod opening;
 pub mod qubits;

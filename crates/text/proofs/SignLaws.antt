@@ -14,9 +14,9 @@ use mir.ValLaws.{to_z-of_z}
 use Rattle.model.specs.Search.{found}
 use Rattle.model.specs.Calls.{looked}
 use Rattle.pauli.proofs.Signs.{bits8}
-use Rattle.store.specs.Promises.{told_look}
-use Rattle.store.specs.declared.answers.Sight.{Sight}
-use Rattle.store.specs.declared.answers.Sight.TheVariants as sight
+use Rattle.store.specs.Promises.{seen_of}
+use Rattle.history.specs.declared.findings.Found.{Found}
+use Rattle.history.specs.declared.findings.Found.TheVariants.{Partner}
 use Rattle.text.specs.Shape.{fill, printed}
 use Rattle.text.specs.Wrote.{Wrote}
 use Rattle.text.specs.Spoken.{replied, found_shape, spoken}
@@ -44,10 +44,10 @@ module _ (o : List ℕ) (l id : ℕ) (g : ℤ) (n : ℕ) (o' : List ℕ) (r : �
       let e : lt_z g (pos 0) ≡ false = subst (λ (a : ℤ). lt_z a (pos 0) ≡ false) (to_z-of_z w8 g small) h in
       subst (λ (p : String). Wrote o 0 (printed (fill p (l ∷ id ∷ n ∷ []))) o' r) (plus g e) w
 
-  -- the sign of what a look said, handed on
-  pub wrote_found : (s : Sight) → s ≡ sight.Found id g n → Wrote o 0 (spoken (replied l (looked (found id (bits8 g) n)))) o' r
-      → Wrote o 0 (spoken (replied l (told_look s))) o' r
-  unfolding told_look
-  wrote_found s e w =
-      subst (λ (x : Sight). Wrote o 0 (spoken (replied l (told_look x))) o' r) (sym e)
+  -- the sign of what a look found, handed on
+  pub wrote_found : (f : Found) → f ≡ Partner id g → Wrote o 0 (spoken (replied l (looked (found id (bits8 g) n)))) o' r
+      → Wrote o 0 (spoken (replied l (looked (seen_of f n)))) o' r
+  unfolding seen_of
+  wrote_found f e w =
+      subst (λ (x : Found). Wrote o 0 (spoken (replied l (looked (seen_of x n)))) o' r) (sym e)
       (subst (λ (a : ℤ). Wrote o 0 (spoken (replied l (looked (found id a n)))) o' r) (to_z-of_z w8 g small) w)

@@ -2,12 +2,12 @@
 // (proofs/Room.antt, `spoken_room`). The answer is how many bytes were written.
 ghost use Rattle.model.specs.Calls.{refused, looked};
 ghost use Rattle.model.specs.Search.{found};
-ghost use Rattle.store.specs.Promises.{told, told_look};
+ghost use Rattle.store.specs.Promises.{told, told_look, seen_of};
 ghost use Rattle.text.specs.Wrote.{Wrote};
 ghost use Rattle.text.specs.Spoken.{replied, bad, not_opened, end, spoken};
 
 use super::writing::write_by;
-use store::answers::Sight;
+use history::findings::{Found, Look};
 use store::refusals::Refusal;
 
 // "A refused operation prints its answer alone."
@@ -51,27 +51,25 @@ fn write_found(line: u64, first: usize, sign: i8, spent: u32, out: &mut [u8]) ->
 }
 
 // What a look said.
-pub fn write_sight(line: u64, s: Sight, out: &mut [u8]) -> usize
+pub fn write_sight(line: u64, s: Result<Look, Refusal>, out: &mut [u8]) -> usize
     ensures { Wrote out.old 0 (spoken (replied line (told_look s))) out.new result }
 {
     match s {
-        Sight::Found { id, sign, steps } => write_found(line, id, sign, steps, out),
-        Sight::Nothing(spent) => {
-            let steps = spent as u64;
-            let v = [line, steps];
-            write_by(b"line=# look=none steps=#\n", &v, out)
-        }
-        Sight::Blocked(spent) => {
-            let steps = spent as u64;
-            let v = [line, steps];
-            write_by(b"line=# look=blocked steps=#\n", &v, out)
-        }
-        Sight::Out(spent) => {
-            let steps = spent as u64;
-            let v = [line, steps];
-            write_by(b"line=# look=out steps=#\n", &v, out)
-        }
-        Sight::Refused(number) => write_refusal(line, number, out),
+        Ok(look) => write_seen(line, look, out),
+        Err(e) => write_refusal(line, e.code(), out),
+    }
+}
+
+fn write_seen(line: u64, look: Look, out: &mut [u8]) -> usize
+    ensures { Wrote out.old 0 (spoken (replied line (looked (seen_of look.found look.steps)))) out.new result }
+{
+    let steps = look.steps as u64;
+    let v = [line, steps];
+    match look.found {
+        Found::Partner { id, sign } => write_found(line, id, sign, look.steps, out),
+        Found::Nothing => write_by(b"line=# look=none steps=#\n", &v, out),
+        Found::Blocked => write_by(b"line=# look=blocked steps=#\n", &v, out),
+        Found::OutOfSteps => write_by(b"line=# look=out steps=#\n", &v, out),
     }
 }
 

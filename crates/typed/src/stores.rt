@@ -25,7 +25,6 @@ use frame::axes::Kind;
 use gating::gates::Gate;
 use history::events::Rotation;
 use history::forms::Form;
-use store::answers::{Reading, Sight};
 use store::refusals::OpenError;
 
 // What an opening fixes: how many qubits, room for how many events, how many steps for each look, and the form of the lists.
@@ -233,38 +232,43 @@ fn numbered(answer: Result<usize, store::refusals::Refusal>) -> Result<EventId, 
     Ok(EventId(first))
 }
 
-// A read's answer as a result.
+// A read's answer as a result of this layer.
 #[tactic(auto, unfolding(store::specs::Promises::number, store::specs::Promises::told_read))]
-fn said(reading: Reading) -> Result<Rotation, Refusal>
-    requires { IsReply (told_read reading) }
-    ensures number { number_of result ≡ number (told_read reading) }
-    ensures value { IfOk result (λ r. told_read reading ≡ says (reading_of r)) }
+fn said(answer: Result<Rotation, store::refusals::Refusal>) -> Result<Rotation, Refusal>
+    requires { IsReply (told_read answer) }
+    ensures number { number_of result ≡ number (told_read answer) }
+    ensures value { IfOk result (λ r. told_read answer ≡ says (reading_of r)) }
 {
-    match reading {
-        Reading::Says { tag, sign, live } => Ok(Rotation { tag, sign, live }),
-        Reading::Refused(code) => Err(Refusal::from_code(code)),
+    match answer {
+        Ok(rotation) => Ok(rotation),
+        Err(refusal) => Err(Refusal::from_code(refusal.code())),
     }
 }
 
-// A look's answer as a result.
-#[tactic(auto, unfolding(store::specs::Promises::number, store::specs::Promises::told_look))]
-fn sighted(sight: Sight) -> Result<Look, Refusal>
-    requires { IsReply (told_look sight) }
-    ensures number { number_of result ≡ number (told_look sight) }
-    ensures value { IfOk result (λ a. told_look sight ≡ looked (look_of a)) }
+// A look's answer as a result of this layer, with the event's number as its type.
+#[tactic(auto, unfolding(store::specs::Promises::number, store::specs::Promises::told_look, store::specs::Promises::seen_of))]
+fn sighted(
+    answer: Result<history::findings::Look, store::refusals::Refusal>,
+) -> Result<Look, Refusal>
+    requires { IsReply (told_look answer) }
+    ensures number { number_of result ≡ number (told_look answer) }
+    ensures value { IfOk result (λ a. told_look answer ≡ looked (look_of a)) }
 {
-    let (found, steps) = match sight {
-        Sight::Found { id, sign, steps } => (
-            Found::Partner {
-                id: EventId(id),
-                sign,
-            },
-            steps,
-        ),
-        Sight::Nothing(steps) => (Found::Nothing, steps),
-        Sight::Blocked(steps) => (Found::Blocked, steps),
-        Sight::Out(steps) => (Found::OutOfSteps, steps),
-        Sight::Refused(code) => return Err(Refusal::from_code(code)),
+    let seen = match answer {
+        Ok(seen) => seen,
+        Err(refusal) => return Err(Refusal::from_code(refusal.code())),
     };
-    Ok(Look { found, steps })
+    let found = match seen.found {
+        history::findings::Found::Partner { id, sign } => Found::Partner {
+            id: EventId(id),
+            sign,
+        },
+        history::findings::Found::Nothing => Found::Nothing,
+        history::findings::Found::Blocked => Found::Blocked,
+        history::findings::Found::OutOfSteps => Found::OutOfSteps,
+    };
+    Ok(Look {
+        found,
+        steps: seen.steps,
+    })
 }

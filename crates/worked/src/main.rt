@@ -5,10 +5,11 @@
 
 use frame::axes::Kind;
 use gating::gates::Gate;
+use history::events::Rotation;
+use history::findings::{Found, Look};
 use history::forms::Form;
 use partner::calls::{ccx, clear, gate, kill, look, measure, open, read, record};
 use std::{fmt, io};
-use store::answers::{Reading, Sight};
 use store::refusals::{OpenError, Refusal};
 
 // ---- what is written
@@ -54,23 +55,25 @@ fn recorded(rt: &impl Print, at: Place, said: Result<usize, Refusal>) -> io::Res
 }
 
 // Writes what a look says.
-fn seen(rt: &impl Print, at: Place, said: Sight) -> io::Result<()> {
+fn seen(rt: &impl Print, at: Place, said: Result<Look, Refusal>) -> io::Result<()> {
     match said {
-        Sight::Found { id, sign, steps } => {
-            println!(rt; "{at} look=found id={id} sign={sign} steps={steps}")
-        }
-        Sight::Nothing(steps) => println!(rt; "{at} look=none steps={steps}"),
-        Sight::Blocked(steps) => println!(rt; "{at} look=blocked steps={steps}"),
-        Sight::Out(steps) => println!(rt; "{at} look=out steps={steps}"),
-        Sight::Refused(k) => println!(rt; "{at} answer={k}"),
+        Ok(Look { found, steps }) => match found {
+            Found::Partner { id, sign } => {
+                println!(rt; "{at} look=found id={id} sign={sign} steps={steps}")
+            }
+            Found::Nothing => println!(rt; "{at} look=none steps={steps}"),
+            Found::Blocked => println!(rt; "{at} look=blocked steps={steps}"),
+            Found::OutOfSteps => println!(rt; "{at} look=out steps={steps}"),
+        },
+        Err(e) => println!(rt; "{at} answer={}", e.code()),
     }
 }
 
 // Writes what a read says.
-fn kept(rt: &impl Print, at: Place, said: Reading) -> io::Result<()> {
+fn kept(rt: &impl Print, at: Place, said: Result<Rotation, Refusal>) -> io::Result<()> {
     match said {
-        Reading::Says { tag, sign, live: _ } => println!(rt; "{at} read tag={tag} sign={sign}"),
-        Reading::Refused(k) => println!(rt; "{at} answer={k}"),
+        Ok(Rotation { tag, sign, .. }) => println!(rt; "{at} read tag={tag} sign={sign}"),
+        Err(e) => println!(rt; "{at} answer={}", e.code()),
     }
 }
 

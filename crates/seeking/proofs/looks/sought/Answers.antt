@@ -2,34 +2,24 @@
 use mathlib.Core.Logic.{inl}
 use mathlib.Core.Path.{refl}
 use Rattle.frame.specs.Axes.{kind_of}
-use Rattle.store.specs.Checks.{sizes}
-use Rattle.store.specs.Promises.{number, told_look}
+use Rattle.store.specs.Promises.{told_look}
 use Rattle.store.proofs.LentLaws.{lent-Sized}
 use Rattle.seeking.proofs.SeekLaws.{row-length, sought_seen, sought_bad}
-use native.Mathlib.Omega.{arith}
 use Rattle.seeking.proofs.looks.sought.Goals as goal
 
 pub look-requires : goal.look-requires
-look-requires c = (
-  lent-Sized (sizes c.args.n c.args.l c.args.form c.args.cap c.args.allowance c.args.at c.args.end) c.args.s.now c.requires.0,
-  row-length c.args.l c.args.row.now c.requires.2,
-  inl refl,
-)
+look-requires c = (lent-Sized c.args.z.now c.args.s.now c.requires.0, row-length c.args.z.now.l c.args.row.now c.requires.2, inl refl)
 
-pub returns-in-Ok-clause-says : goal.returns-in-Ok-clause-says
-returns-in-Ok-clause-says c =
+pub returns-in_err-seen : goal.returns-in_err-seen
+returns-in_err-seen c =
     let a = c.args in
-    let t = c.label-tag in
-    sought_seen (sizes a.n a.l a.form a.cap a.allowance a.at a.end) a.s.now c.requires.0 (kind_of a.kind) a.q c.requires.1 a.row.now c.requires.2 t.result t.ensures c.look.result c.look.ensures
-    _ c.in-Ok.is (told_look c.sight.result) c.sight.ensures.says
+    let t = c.label-high in
+    let k = c.look in
+    λ m held row. absurd (sought_bad a.z.now a.s.now c.requires.0 (kind_of a.kind) a.q c.requires.1 a.row.now c.requires.2 t.result t.ensures k.result k.ensures _ c.in_err-seen.was m held row)
 
-pub returns-in-Err-clause-few : goal.returns-in-Err-clause-few
-unfolding told_look number
-returns-in-Err-clause-few c = omega arith
-
-pub returns-in-Err-clause-says : goal.returns-in-Err-clause-says
-returns-in-Err-clause-says c =
+pub returns : goal.returns
+returns c =
     let a = c.args in
-    let t = c.label-tag in
-    λ m held row. absurd (sought_bad (sizes a.n a.l a.form a.cap a.allowance a.at a.end) a.s.now c.requires.0 (kind_of a.kind) a.q c.requires.1 a.row.now c.requires.2 t.result t.ensures c.look.result c.look.ensures
-    _ c.in-Err.is m held row)
+    let t = c.label-high in
+    let k = c.look in
+    sought_seen a.z.now a.s.now c.requires.0 (kind_of a.kind) a.q c.requires.1 a.row.now c.requires.2 t.result t.ensures k.result k.ensures _ c.in_ok-seen.was (told_look c.sight.result) c.sight.ensures
