@@ -1,2 +1,0 @@
--- What the proofs of `replay` rest on.
-pub mod Leading
