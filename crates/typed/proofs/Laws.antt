@@ -23,13 +23,14 @@ use Rattle.model.proofs.Exact.{exact}
 use Rattle.model.proofs.Enough.{never_out}
 use Rattle.store.proofs.MeetLaws.{Reached-Good}
 use Rattle.history.specs.declared.events.Rotation.{Rotation}
+use Rattle.history.specs.declared.findings.Look as history
 use Rattle.typed.specs.declared.ids.EventId.{EventId}
 use Rattle.typed.specs.declared.looks.Found.{Found}
 use Rattle.typed.specs.declared.looks.Found.TheVariants.{Partner, Nothing, Blocked, OutOfSteps}
 use Rattle.typed.specs.declared.looks.Look.{Look}
-use Rattle.typed.specs.Looks.{found_of, look_of, reading_of, FindsExactly, HasEnough}
+use Rattle.typed.specs.Looks.{finding_of, plain_of, found_of, look_of, reading_of, FindsExactly, HasEnough}
 use Rattle.store.specs.Stores.{Held, HeldTo}
-use Rattle.store.specs.Promises.{number, turn_known, told_done, told_first, Answers, Meets}
+use Rattle.store.specs.Promises.{number, turn_known, told_done, told_first, told_read, told_look, seen_of, Answers, Meets}
 use Rattle.store.specs.Held.{IsStore, ForState, Gives, Does}
 use Rattle.store.specs.declared.refusals.Refusal as wide
 use Rattle.store.specs.declared.refusals.Refusal.TheVariants as wide_is
@@ -40,7 +41,7 @@ use Rattle.typed.specs.declared.refusals.Refusal.TheVariants.{NoSuchQubit, SameQ
 use Rattle.typed.specs.declared.turns.Turn.{Turn}
 use Rattle.typed.specs.declared.turns.Turn.TheVariants.{Zero, Quarter, Half, ThreeQuarters}
 use Rattle.typed.specs.Turns.{eighths_of}
-use Rattle.typed.specs.Refusals.{code_of, number_of, IsOnStore, IsReply, LacksQubit, RepeatsQubit, LacksRoom}
+use Rattle.typed.specs.Refusals.{code_of, number_of, IsOnStore, LacksQubit, RepeatsQubit, LacksRoom}
 
 -- ---- the tests of a call, in 01's order
 
@@ -468,31 +469,35 @@ is_next c s x t y p n e = recorded_next c s x n p.answers y e
 
 -- ---- the clauses of a read and a look, whose number is the reply's
 
-IsReply-prop : (r : Reply) → IsProp (IsReply r)
-IsReply-prop (refused k) = λ a b i. (le_prop a.0 b.0 i, le_prop a.1 b.1 i)
-IsReply-prop accepted = λ a b. refl
-IsReply-prop (recorded id) = λ a b. refl
-IsReply-prop (says v) = λ a b. refl
-IsReply-prop (looked l) = λ a b. refl
+pub number_read : (x : Result Rotation wide.Refusal) → store.number_of x ≡ number (told_read x)
+unfolding number told_read
+number_read (Ok v) = refl
+number_read (Err e) = refl
 
-one_reply : (a : ℕ) (r : Reply) → IsReply r → (1 ≤ a → (4 ≤ a) × (a ≤ 7)) → IsReply (cond (eqb a 0) r (refused a))
-one_reply a r plain range = go (eqb a 0) refl
-  where
-    go : (t : Bool) → eqb a 0 ≡ t → IsReply (cond t r (refused a))
-    go true e = plain
-    go false e = let z : a ≢ 0 = eqb-false a 0 e in range (omega arith)
+pub number_look : (x : Result history.Look wide.Refusal) → store.number_of x ≡ number (told_look x)
+unfolding number told_look
+number_look (Ok a) = refl
+number_look (Err e) = refl
+
+-- what a read and a look say, of the value that the method gives
+pub read_says : (x : Result Rotation wide.Refusal) (y : Result Rotation Refusal) → IfOk y (λ v. x ≡ Ok v) → IfOk y (λ v. told_read x ≡ says (reading_of v))
+unfolding told_read
+read_says x (Ok v) e = ap told_read e
+read_says x (Err d) e = tt
+
+seen_found : (f : Found) (steps : ℕ) → seen_of (finding_of f) steps ≡ found_of f steps
+unfolding seen_of
+seen_found (Partner id sign) steps = refl
+seen_found Nothing steps = refl
+seen_found Blocked steps = refl
+seen_found OutOfSteps steps = refl
+
+pub look_says : (x : Result history.Look wide.Refusal) (y : Result Look Refusal) → IfOk y (λ a. x ≡ Ok (plain_of a)) → IfOk y (λ a. told_look x ≡ looked (look_of a))
+unfolding told_look
+look_says x (Ok a) e = ap told_look e ∙ ap looked (seen_found a.found a.steps)
+look_says x (Err d) e = tt
 
 module _ (c : Call) (s : List ℕ) (r : Reply) (p : Answers c s r) where
-  pub replied : IsStore s → IsOfStore c → ((m : State) → IsReply (reply_of c m)) → IsReply r
-  unfolding reply
-  replied i k plain =
-      ∥∥₁_elim i (IsReply-prop r)
-      (λ h.
-      let e : answer_to c (length s) h.0 ≡ tested c h.0 = answer_is c (length s) h.0 k h.1.stored.long in
-      subst IsReply (sym (p.meaning h.0 h.1))
-      (one_reply (answer_to c (length s) h.0) (reply_of c h.0) (plain h.0)
-      (subst (λ (a : ℕ). 1 ≤ a → (4 ≤ a) × (a ≤ 7)) (sym e) (chain_range _ _ _ _))))
-
   module _ {B : Type 0} (y : Result B Refusal) (e : number_of y ≡ number r) where
     pub said_no_such : (q : ℕ) → IsOfStore c → names c ≡ q ∷ [] → ForState s (λ m. IsErrOf y NoSuchQubit ↔ (m.given.n ≤ q))
     said_no_such q k one = no_such c s y k (answers c s r p y e) q one

@@ -6,9 +6,22 @@ use Rattle.model.specs.Search as model
 use Rattle.model.specs.Calls.{Reading}
 use Rattle.model.specs.Demands.{Exactly, living}
 use Rattle.history.specs.declared.events.Rotation.{Rotation}
+use Rattle.history.specs.declared.findings.Look as history
+use Rattle.history.specs.declared.findings.Found as finding
+use Rattle.history.specs.declared.findings.Found.TheVariants as finding_is
 use Rattle.typed.specs.declared.looks.Found.{Found}
 use Rattle.typed.specs.declared.looks.Found.TheVariants.{Partner, Nothing, Blocked, OutOfSteps}
 use Rattle.typed.specs.declared.looks.Look.{Look}
+
+-- the same as `history` has it, with a number for an event
+abbrev pub finding_of : Found → finding.Found
+finding_of (Partner id sign) = finding_is.Partner id.0 sign
+finding_of Nothing = finding_is.Nothing
+finding_of Blocked = finding_is.Blocked
+finding_of OutOfSteps = finding_is.OutOfSteps
+
+abbrev pub plain_of : Look → history.Look
+plain_of a = record { found = finding_of a.found; steps = a.steps }
 
 abbrev pub found_of : Found → (steps : ℕ) → model.Look
 found_of (Partner id sign) steps = model.found id.0 sign steps

@@ -1,7 +1,7 @@
 -- The refusals of a store as `store`'s, their numbers, and when each comes. Assumes nothing.
 use Rattle.std.specs.Prelude.{ℕ, ◌+◌, ◌≤◌, ◌<◌, List, length, Result, Ok, Err, IsTrue, IsFalse, All, Any}
 use Rattle.model.specs.Events.{State}
-use Rattle.model.specs.Calls.{twice, Reply, refused, accepted, recorded, says, looked}
+use Rattle.model.specs.Calls.{twice}
 use Rattle.store.specs.declared.refusals.Refusal as wide
 use Rattle.store.specs.declared.refusals.Refusal.TheVariants as wide_is
 use Rattle.store.specs.Refusals as store
@@ -27,14 +27,6 @@ number_of (Err e) = code_of e
 -- a refusal that can come on words that hold a state: 3, 8 and 9 cannot
 abbrev pub IsOnStore : wide.Refusal → Type 0
 IsOnStore e = (4 ≤ store.code_of e) × (store.code_of e ≤ 7)
-
--- a reply that can come there
-abbrev pub IsReply : Reply → Type 0
-IsReply (refused k) = (4 ≤ k) × (k ≤ 7)
-IsReply accepted = Unit {0}
-IsReply (recorded id) = Unit {0}
-IsReply (says v) = Unit {0}
-IsReply (looked a) = Unit {0}
 
 -- ---- when a call that names the qubits qs is refused, in 01's order: "4; 5; 6 or 7"
 

@@ -1,5 +1,5 @@
 // Why a call on a store was refused. Nothing was written then.
-ghost use Rattle.std.specs.Prelude.{◌≡◌, ◌≤◌, Ok, IfOk};
+ghost use Rattle.std.specs.Prelude.{◌≡◌, Ok, IfOk};
 ghost use Rattle.std.specs.Result.{ForErr};
 ghost use Rattle.store.specs.Refusals as store;
 ghost use Rattle.typed.specs.Refusals.{code_of, number_of, wide_of, IsOnStore};
@@ -51,21 +51,6 @@ impl From<Refusal> for store::refusals::Refusal {
             Refusal::SameQubit => store::refusals::Refusal::SameQubit,
             Refusal::Full => store::refusals::Refusal::Full,
             Refusal::NoSuchEvent => store::refusals::Refusal::NoSuchEvent,
-        }
-    }
-}
-
-impl Refusal {
-    pub(crate) fn from_code(code: u32) -> Refusal
-        requires some { 4 ≤ code }
-        requires few { code ≤ 7 }
-        ensures { code_of result ≡ code }
-    {
-        match code {
-            4 => Refusal::NoSuchQubit,
-            5 => Refusal::SameQubit,
-            6 => Refusal::Full,
-            _ => Refusal::NoSuchEvent,
         }
     }
 }

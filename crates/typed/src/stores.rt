@@ -1,34 +1,35 @@
 // The store as a value. Each method says its answer (`answer`: the definition's number), when each refusal comes (the clauses named for one), what became
 // of the words where it is done (`done`), and that they are as they were where it is refused (`refused`). `loan` says that the store still borrows the
-// words that it was made of, so that their owner knows every word once the store is gone (`tests::carried`).
+// words that it was made of, so that their owner knows every word once the store is gone.
 ghost use Rattle.std.specs.Prelude.{◌≡◌, ◌≢◌, ◌≤◌, ◌<◌, ◌+◌, ◌↔◌, [], ◌∷◌, length, Ok, IsOk, IsTrue, OnOk, OnErr, IfOk, IsErrOf};
 ghost use Rattle.std.specs.Result.{ForErr};
-ghost use Rattle.model.specs.Calls.{call_gate, call_turn, call_record, call_measure, call_reset, call_ccx, call_ccz, call_kill, call_clear, call_read, call_look, open_answer, opened, says, looked, reading, gate_qubits, not_killable, not_readable};
+ghost use Rattle.model.specs.Calls.{call_gate, call_turn, call_record, call_measure, call_reset, call_ccx, call_ccz, call_kill, call_clear, call_read, call_look, open_answer, opened, reading, gate_qubits, not_killable, not_readable};
 ghost use Rattle.model.specs.Search.{look};
 ghost use Rattle.frame.specs.Axes.{kind_of};
 ghost use Rattle.gating.specs.Gates.{gate_of};
 ghost use Rattle.store.specs.Stores.{HeldTo};
 ghost use Rattle.store.specs.Refusals as store;
 ghost use Rattle.store.specs.Refusals.{open_number_of};
-ghost use Rattle.store.specs.Promises.{number, told_read, told_look};
 ghost use Rattle.store.specs.Held.{IsStore, ForState, Gives, Does};
-ghost use Rattle.typed.specs.Looks.{look_of, reading_of, FindsExactly, HasEnough};
+ghost use Rattle.typed.specs.declared.looks.Found.TheVariants as found;
+ghost use Rattle.typed.specs.Looks.{look_of, plain_of, reading_of, FindsExactly, HasEnough};
 ghost use Rattle.typed.specs.Openings.{opening_by, FitsSizes, FitsEvents, FitsWords};
-ghost use Rattle.typed.specs.Refusals.{number_of, IsOnStore, IsReply, LacksQubit, RepeatsQubit, LacksRoom};
+ghost use Rattle.typed.specs.Refusals.{number_of, IsOnStore, LacksQubit, RepeatsQubit, LacksRoom};
 ghost use Rattle.typed.specs.Turns.{eighths_of};
 
 use crate::ids::EventId;
-use crate::looks::{Found, Look};
+use crate::looks::Look;
 use crate::refusals::{Refusal, on_store};
 use crate::turns::Turn;
 use frame::axes::Kind;
 use gating::gates::Gate;
 use history::events::Rotation;
+use history::findings;
 use history::forms::Form;
 use store::refusals::OpenError;
 
 // What an opening fixes: how many qubits, room for how many events, how many steps for each look, and the form of the lists.
-#[derive(Clone, Copy)]
+#[derive(Clone, Copy, Debug, PartialEq, Eq)]
 pub struct Plan {
     pub qubits: usize,
     pub events: usize,
@@ -189,7 +190,7 @@ impl<'a> Store<'a> {
         ensures no_such_event { ForState self.now.words.now (λ m. IsErrOf result Refusal.NoSuchEvent ↔ IsTrue (not_readable m.events id.0)) }
         ensures rotation { IfOk result (λ r. ForState self.now.words.now (λ m. reading_of r ≡ reading m.events id.0)) }
     {
-        said(partner::calls::read(self.words, id.0))
+        on_store(partner::calls::read(self.words, id.0))
     }
 
     // Looks for the partner of a rotation of a kind about qubit q.
@@ -198,9 +199,9 @@ impl<'a> Store<'a> {
         ensures no_such_qubit { ForState self.now.words.now (λ m. IsErrOf result Refusal.NoSuchQubit ↔ (m.given.n ≤ q)) }
         ensures look { IfOk result (λ a. ForState self.now.words.now (λ m. look_of a ≡ look (kind_of kind) q m)) }
         ensures exactly { IfOk result (λ a. ForState self.now.words.now (FindsExactly (kind_of kind) q a)) }
-        ensures enough { IfOk result (λ a. ForState self.now.words.now (λ m. HasEnough m → a.found ≢ Found.OutOfSteps)) }
+        ensures enough { IfOk result (λ a. ForState self.now.words.now (λ m. HasEnough m → a.found ≢ found.OutOfSteps)) }
     {
-        sighted(partner::calls::look(self.words, kind, q))
+        seen(partner::calls::look(self.words, kind, q))
     }
 
     pub fn words(&self) -> &[u64]
@@ -232,43 +233,12 @@ fn numbered(answer: Result<usize, store::refusals::Refusal>) -> Result<EventId, 
     Ok(EventId(first))
 }
 
-// A read's answer as a result of this layer.
-#[tactic(auto, unfolding(store::specs::Promises::number, store::specs::Promises::told_read))]
-fn said(answer: Result<Rotation, store::refusals::Refusal>) -> Result<Rotation, Refusal>
-    requires { IsReply (told_read answer) }
-    ensures number { number_of result ≡ number (told_read answer) }
-    ensures value { IfOk result (λ r. told_read answer ≡ says (reading_of r)) }
+// The result of a look, with the event's number as its type.
+fn seen(answer: Result<findings::Look, store::refusals::Refusal>) -> Result<Look, Refusal>
+    requires { ForErr answer IsOnStore }
+    ensures number { number_of result ≡ store.number_of answer }
+    ensures value { IfOk result (λ a. answer ≡ Ok (plain_of a)) }
 {
-    match answer {
-        Ok(rotation) => Ok(rotation),
-        Err(refusal) => Err(Refusal::from_code(refusal.code())),
-    }
-}
-
-// A look's answer as a result of this layer, with the event's number as its type.
-#[tactic(auto, unfolding(store::specs::Promises::number, store::specs::Promises::told_look, store::specs::Promises::seen_of))]
-fn sighted(
-    answer: Result<history::findings::Look, store::refusals::Refusal>,
-) -> Result<Look, Refusal>
-    requires { IsReply (told_look answer) }
-    ensures number { number_of result ≡ number (told_look answer) }
-    ensures value { IfOk result (λ a. told_look answer ≡ looked (look_of a)) }
-{
-    let seen = match answer {
-        Ok(seen) => seen,
-        Err(refusal) => return Err(Refusal::from_code(refusal.code())),
-    };
-    let found = match seen.found {
-        history::findings::Found::Partner { id, sign } => Found::Partner {
-            id: EventId(id),
-            sign,
-        },
-        history::findings::Found::Nothing => Found::Nothing,
-        history::findings::Found::Blocked => Found::Blocked,
-        history::findings::Found::OutOfSteps => Found::OutOfSteps,
-    };
-    Ok(Look {
-        found,
-        steps: seen.steps,
-    })
+    let look = on_store(answer)?;
+    Ok(Look::from(look))
 }
