@@ -1,5 +1,5 @@
 // Where a number stands in a rising list.
-ghost use Rattle.std.specs.Prelude.{◌≡◌, ◌<◌, ◌≤◌, length, get_or};
+ghost use Rattle.std.specs.Prelude.{◌≡◌, ◌<◌, ◌≤◌, length, slice_index};
 ghost use Rattle.lists.specs.Lists.{Rises, Splits, Sought};
 
 // `half` where the number is not past `after`, else 0.
@@ -35,7 +35,7 @@ fn first_after(ids: &[u64], after: u64) -> usize
 fn gallop(ids: &[u64], id: u64) -> usize
     requires { 0 < length ids.now }
     ensures within { result < length ids.now }
-    ensures low { 0 < result → get_or ids.now result 0 ≤ id }
+    ensures low { 0 < result → slice_index ids.now result ≤ id }
 {
     let mut lo = ids.len() - 1;
     let mut span = 1;

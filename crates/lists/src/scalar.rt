@@ -1,6 +1,6 @@
 // A scalar list (the Rust's `ScalarList`): event numbers, rising, of which the dead stay until more than a quarter is dead. Its length and
 // its dead count stand at `at`, its numbers in `cap` words from `base` on.
-ghost use Rattle.std.specs.Prelude.{◌≡◌, Ok, IsOk, IsErr, List, ℕ, ◌+◌, ◌*◌, ◌≤◌, ◌<◌, length, get_or};
+ghost use Rattle.std.specs.Prelude.{◌≡◌, Ok, IsOk, IsErr, List, ℕ, ◌+◌, ◌*◌, ◌≤◌, ◌<◌, length, slice_index};
 ghost use Rattle.model.specs.Pauli.{has};
 ghost use Rattle.model.specs.Events.{State, words};
 ghost use Rattle.model.specs.Search.{walk, scalar_list};
@@ -22,7 +22,7 @@ use pauli::rows::anticommutes;
 pub fn push(h: &mut [u64], at: usize, base: usize, cap: usize, id: u64) -> Result<(), Corrupt>
     requires { Room h.old at base cap }
     ensures long { length h.new ≡ length h.old }
-    ensures full { cap ≤ get_or h.old at 0 → IsErr result }
+    ensures full { cap ≤ slice_index h.old at → IsErr result }
     ensures done { (ids : List ℕ) (d : ℕ) → Scalar h.old at base cap ids d → length ids < cap → IsOk result × ScalarTo h.old at base cap (pushed id ids) d h.new }
 {
     let len = h[at] as usize;
@@ -74,8 +74,8 @@ pub fn note_dead(
 ) -> Result<(), Corrupt>
     requires { Room h.old at base cap × (live.at + words live.events ≤ base) }
     ensures long { length h.new ≡ length h.old }
-    ensures over { cap < get_or h.old at 0 → IsErr result }
-    ensures all { get_or h.old at 0 ≤ get_or h.old (at + 1) 0 → IsErr result }
+    ensures over { cap < slice_index h.old at → IsErr result }
+    ensures all { slice_index h.old at ≤ slice_index h.old (at + 1) → IsErr result }
     ensures done { (ids : List ℕ) (d : ℕ) → Scalar h.old at base cap ids d → d < length ids → Known live.events ids → IsOk result × ScalarTo h.old at base cap (noted h.old live.at d ids) (still 4 (d + 1) (length ids)) h.new }
 {
     let len = h[at] as usize;

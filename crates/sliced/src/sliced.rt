@@ -1,6 +1,6 @@
 // A sliced list (the Rust's `SlicedList`): event numbers, rising, with the axes of each block of 64 entries in masks (specs/Blocks.antt). The
 // dead stay until more than half is dead. Its length and its dead count stand at `at`, the rest in its `ListRoom`.
-ghost use Rattle.std.specs.Prelude.{◌≡◌, true, Ok, IsTrue, IsOk, IsErr, slice_index, List, map, ℕ, ◌+◌, ◌-◌, ◌*◌, ◌≤◌, ◌<◌, ◌^◌, length, get_or};
+ghost use Rattle.std.specs.Prelude.{◌≡◌, true, Ok, IsTrue, IsOk, IsErr, slice_index, List, map, ℕ, ◌+◌, ◌-◌, ◌*◌, ◌≤◌, ◌<◌, ◌^◌, length};
 ghost use Rattle.std.specs.Int.Count.{ones};
 ghost use Rattle.model.specs.Pauli.{has};
 ghost use Rattle.model.specs.Events.{State, words};
@@ -101,7 +101,7 @@ pub fn push(
 ) -> Result<(), Corrupt>
     requires { Room h.old at room.base (sliced_room room.cap room.n) × (room.n ≤ 32) × (x < 2 ^ room.n) × (z < 2 ^ room.n) }
     ensures long { length h.new ≡ length h.old }
-    ensures full { room.cap ≤ get_or h.old at 0 → IsErr result }
+    ensures full { room.cap ≤ slice_index h.old at → IsErr result }
     ensures done { (m : List Entry) (d : ℕ) → Sliced h.old at room.base room.cap room.n m d → length m < room.cap → IsOk result × SlicedTo h.old at room.base room.cap room.n (pushed (fresh id x z) m) d h.new }
 {
     let len = h[at] as usize;
@@ -145,7 +145,7 @@ fn keep(
 #[tactic(auto, unfolding(model::specs::Events::words))]
 fn all_live(h: &[u64], at: usize, live: LiveSet) -> bool
     requires { (at + 64 ≤ length h.now) × (live.at + words live.events ≤ at) × (live.events ≤ at) }
-    ensures { IsTrue result → (j : ℕ) → j < 64 → is_live h.now live.at (get_or h.now (at + j) 0) ≡ true }
+    ensures { IsTrue result → (j : ℕ) → j < 64 → is_live h.now live.at (slice_index h.now (at + j)) ≡ true }
 {
     for j in 0..64 {
         if !live.has(h, h[at + j]).unwrap_or(false) {
@@ -211,8 +211,8 @@ pub fn kill(
 ) -> Result<(), Corrupt>
     requires { Room h.old at room.base (sliced_room room.cap room.n) × (room.n ≤ 32) × (live.at + words live.events ≤ at) × (axes + 2 * live.events ≤ at) }
     ensures long { length h.new ≡ length h.old }
-    ensures over { room.cap < get_or h.old at 0 → IsErr result }
-    ensures all { get_or h.old at 0 ≤ get_or h.old (at + 1) 0 → IsErr result }
+    ensures over { room.cap < slice_index h.old at → IsErr result }
+    ensures all { slice_index h.old at ≤ slice_index h.old (at + 1) → IsErr result }
     ensures done { (m : List Entry) (d pos : ℕ) → Sliced h.old at room.base room.cap room.n m d → d < length m → RisingIds m → Source h.old room.n axes live.events m → pos < length m → (entry m pos).id ≡ id → IsOk result × SlicedTo h.old at room.base room.cap room.n (killed_at h.old live.at d pos m) (still 2 (d + 1) (length m)) h.new }
 {
     let len = h[at] as usize;
@@ -240,10 +240,7 @@ pub fn kill(
 fn cost(live: u64) -> u32
     ensures { result ≡ ones live }
 {
-    if live == !0 {
-        return 64;
-    }
-    u64::count_ones(live)
+    if live == !0 { 64 } else { live.count_ones() }
 }
 
 // One block: its live entries are paid for, and then those in first are tested against word, the ones that anticommute.
