@@ -59,7 +59,7 @@ pub fn read(h: &[u64], layout: &Layout, id: usize) -> Result<Option<Rotation>, C
     let Ok(tag) = u32::try_from(word / 4) else {
         return Err(Corrupt);
     };
-    // How a stored word says the sign (docs/STORE.md).
+    // How a stored word says the sign (docs/STORE.md). `looks::partner` has the same five lines: a function for both, with its clauses, is longer.
     let sign = match word % 4 {
         1 => 1,
         3 => -1,

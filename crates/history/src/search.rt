@@ -14,7 +14,7 @@ use lists::budget::Budget;
 use pauli::corrupt::Corrupt;
 use pauli::rows::same;
 
-// What one event of a chain leads to: an older one, or the end. It is std's ControlFlow with names: that would carry a pair without any.
+// What one event of a chain leads to: an older one, or the end. `ControlFlow<Candidate, (usize, Budget)>` would say no more.
 #[derive(Clone, Copy, Debug, PartialEq, Eq)]
 pub enum Visit {
     On(usize, Budget),
@@ -34,8 +34,8 @@ fn onward(h: &[u64], cap: usize, cur: usize, left: Budget) -> Result<Visit, Corr
     }
 }
 
-// What is asked for comes word by word, as `candidate` has it in registers: a struct would go through memory on each turn (docs/SPEED.md).
-// Event cur - 1 of a chain: it is none, or before the last clear, or of another label, or of this one, which costs a step.
+// Event cur - 1 of a chain: it is none, or before the last clear, or of another label, or of this one, which costs a step. (Nine parameters: they are
+// `candidate`'s own, handed on; a struct would be built there and taken apart here.)
 fn turn(
     h: &[u64],
     layout: &Layout,
