@@ -8,7 +8,7 @@ use history::events::Rotation;
 use history::findings::{Found, Look};
 use store::refusals::{OpenError, Refusal};
 
-// 01's number of an opening.
+// 01's number of an opening. Beside `number_of`, since the two errors are two types: a trait over both would be longer than the two bodies.
 #[tactic(auto, unfolding(store::specs::Promises::number))]
 pub fn open_number_of(opened: Result<(), OpenError>) -> u32
     ensures { result ≡ number (told_open opened) }
@@ -49,19 +49,14 @@ pub fn first_of(recorded: Result<usize, Refusal>, first: &mut usize) -> u32
 pub fn sign_word(sign: i8) -> u64
     ensures { result ≡ sign_word sign }
 {
-    if sign < 0 {
-        return 18446744073709551615;
-    }
-    1
+    if sign < 0 { u64::MAX } else { 1 }
 }
 
+#[tactic(auto, unfolding(crate::specs::Host::bit))]
 pub fn bit_word(b: bool) -> u64
     ensures { result ≡ bit b }
 {
-    if b {
-        return 1;
-    }
-    0
+    u64::from(b)
 }
 
 // The four words of a look into the first of `says`; of a refusal none.

@@ -1,4 +1,5 @@
-// One line of a job: read, done on the store, answered. The answer's bytes go to the start of the lent `out`.
+// One line of a job: read, done on the store, answered. The answer's bytes go to the start of the lent `out`. The lent slices go on one by one, and in no struct:
+// `run` promises on slices of any sizes, and a struct of four `&mut` would be taken apart at each call.
 ghost use Rattle.std.specs.Prelude.{◌-◌, ◌≤◌, ◌<◌, ◌≡◌, length};
 ghost use Rattle.model.specs.Calls.{call_look};
 ghost use Rattle.frame.specs.Axes.{kind_of};

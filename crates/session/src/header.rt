@@ -5,7 +5,7 @@ ghost use Rattle.session.specs.Desk.{Takes, Within};
 use super::stages::{MAX_EVENTS, MAX_QUBITS, Stage};
 use text::lines::Line;
 
-// The four words of a label go behind those of the qubits before it.
+// The four words of a label go behind those of the qubits before it. They are four values, as the line has them.
 fn put_label(labels: &mut [u64], q: usize, xh: u64, xl: u64, zh: u64, zl: u64)
     requires { (q < 32) × (length labels.old ≡ 128) }
     ensures { take (4 * (q + 1)) labels.new ≡ take (4 * q) labels.old ++ (xh ∷ xl ∷ zh ∷ zl ∷ []) }

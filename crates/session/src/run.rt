@@ -121,8 +121,9 @@ fn play(
     Ran::On(t, at)
 }
 
-// The next bytes of a job. Its slices are four, and no struct of them: `Runs` promises on slices of any sizes. Lent are the line buffer (80 bytes), the labels (128 words), the store (4,401 words) and out (128 bytes for each byte of the
-// input); the first three are the job's own until its end. The answers are the first bytes of out.
+// The next bytes of a job. Lent are the line buffer (80 bytes), the labels (128 words), the store (4,401 words) and out (128 bytes for each byte of the
+// input); the first three are the job's own until its end. The answers are the first bytes of out. The slices are no struct, since `Runs` promises on slices
+// of any sizes.
 pub fn run(
     t: Talk,
     input: &[u8],

@@ -7,8 +7,8 @@ pub mod Steps
 pub mod Walk
 pub mod Back
 -- Lines: reading is the inverse of their texts, and there is no other such reading.
-pub mod LineLaws
 pub mod Rows
+pub mod LineLaws
 pub mod Unique
 -- Writing in parts, the sign of what a look found, and the room that a line of the output takes.
 pub mod WriteLaws

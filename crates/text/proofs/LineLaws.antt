@@ -16,7 +16,8 @@ use Rattle.partner.specs.declared.calls.Call.TheVariants as call
 use Rattle.text.specs.Shape.{item_of, bytes, print, limits, Below, Good}
 use Rattle.text.specs.Taken.{nibble}
 use Rattle.text.specs.Fit.{fitted, zeros, pushes}
-use Rattle.text.specs.Line.{number_of, shape_of, values, text, Legal, Reads, shape_at, kind_numbered, line_of}
+use Rattle.text.specs.Line.{number_of, shape_of, values, text, Legal, Reads, kind_numbered}
+use Rattle.text.proofs.Rows.{shape_at, line_of}
 use Rattle.text.specs.declared.shapes.Five.{Five}
 use Rattle.std.specs.Prelude.{Option, Some, None}
 use Rattle.text.specs.declared.lines.Line.{Line}

@@ -9,13 +9,14 @@ use lib.ListN.{length, drop, drop_of_length-le}
 use lib.Seq.{drop-cons}
 use native.Mathlib.Numerals.{add-one}
 use Rattle.text.specs.Fit.{fitted, zeros}
-use Rattle.text.specs.Line.{text, Legal, Reads, Row, header_rows, gate_rows, call_rows, look_rows, rows, row_at, shape_at, line_of, on_fit, read_rows, reading_of}
+use Rattle.text.specs.Line.{text, Legal, Reads, Row, header_rows, gate_rows, call_rows, look_rows, rows, on_fit, read_rows, reading_of}
 use Rattle.text.specs.Shape.{bytes}
 use Rattle.std.specs.Prelude.{Option, Some, None}
 use Rattle.std.specs.Option.{option_or}
 use Rattle.text.specs.declared.shapes.Five.{Five}
 use Rattle.text.specs.declared.lines.Line.{Line}
 use Rattle.text.proofs.Tests.{decided}
+use Rattle.text.proofs.Rows.{row_at, shape_at, line_of}
 use Rattle.text.proofs.LineLaws.{NoneBefore, Reads-hit, reads_none, Reads-long, one_more}
 
 -- ---- no two readings

@@ -1,6 +1,6 @@
 -- The lines of the input, after 01, "The line program": a line's text is its shape with its values, and reading is the inverse of that. Qubits, events
 -- and ids are any numbers of at most ten digits here: what is too large is refused by the call, or by the program. Assumes nothing.
-use Rattle.std.specs.Prelude.{ℕ, ◌≤◌, ◌≡◌, cond, List, [], ◌∷◌, ◌++◌, eqb, ltb, length, get_or, Option, Some, None}
+use Rattle.std.specs.Prelude.{ℕ, ◌≤◌, ◌≡◌, cond, List, [], ◌∷◌, ◌++◌, eqb, ltb, length, Option, Some, None}
 use Prim.Native.String.{String}
 use Rattle.frame.specs.declared.axes.Kind.{Kind}
 use Rattle.frame.specs.declared.axes.Kind.TheVariants as kind
@@ -145,15 +145,6 @@ look_rows =
 
 abbrev pub rows : List Row
 rows = header_rows ++ (gate_rows ++ (call_rows ++ look_rows))
-
-abbrev pub row_at : ℕ → Row
-row_at k = get_or rows k (row "" (λ f. line.Call call.Clear))
-
-abbrev pub shape_at : ℕ → List ℕ
-shape_at k = bytes (row_at k).shape
-
-abbrev pub line_of : ℕ → Five → Option Line
-line_of k f = Some ((row_at k).makes f)
 
 abbrev pub on_fit : Option Five → (Five → Line) → Option Line → Option Line
 on_fit (Some f) g r = Some (g f)

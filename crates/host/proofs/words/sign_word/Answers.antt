@@ -5,5 +5,5 @@ use Rattle.host.proofs.words.sign_word.Goals as goal
 pub returns-then-sign-lt0 : goal.returns-then-sign-lt0
 returns-then-sign-lt0 c = minus c.args.sign c.ranges.sign c.if-sign-lt0.true
 
-pub returns : goal.returns
-returns c = plus c.args.sign c.ranges.sign c.if-sign-lt0.false
+pub returns-else-sign-lt0 : goal.returns-else-sign-lt0
+returns-else-sign-lt0 c = plus c.args.sign c.ranges.sign c.if-sign-lt0.false
