@@ -36,6 +36,7 @@ pub fn gate(s: &mut [u64], g: Gate) -> Result<(), Refusal>
     Ok(())
 }
 
+// No type of its own for a turn: the public call takes any number and refuses it by 8, as C and the line program hand it over.
 // In eighths of a full turn: three quarters. The frames know turns by even numbers of eighths.
 const LARGEST_TURN: u64 = 6;
 
@@ -49,6 +50,7 @@ fn check_turn(n: usize, k: u64, q: usize) -> Result<(), Refusal>
     check_qubits(n, &[q])
 }
 
+// Not one function with `gate` over a closure: the three steps are shared already, and the closure's clause would be as long as this body.
 // The gates of a turn on both frames. "8: a turn other than 0, 2, 4, 6", then 4
 pub fn turn(s: &mut [u64], kind: Kind, k: u64, q: usize) -> Result<(), Refusal>
     ensures { Meets (call_turn (kind_of kind) k q) s.old (told_done result) s.new }

@@ -51,6 +51,7 @@ pub fn act(f: &mut [u64], n: usize, l: usize, g: Gate) -> Result<(), Corrupt>
     }
 }
 
+// The words and their sizes stay three parameters, as in `frame` (frame/src/lib.rt).
 // The turn by k of a kind is done to both frames.
 pub fn turned(
     f: &mut [u64],

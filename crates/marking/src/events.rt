@@ -31,6 +31,8 @@ fn put(s: &mut [u64], z: &Sizes, row: &[u64], body: Body) -> Result<(), Corrupt>
     Ok(())
 }
 
+// The qubits and the lent row stay parameters of their own below: each is of one mark, and a struct would be made and taken apart once.
+
 // Records a rotation.
 fn rotate(
     s: &mut [u64],

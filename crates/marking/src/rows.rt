@@ -12,6 +12,8 @@ ghost use Rattle.marking.specs.Axes.{Sets};
 use frame::axes::{Basis, Kind, axis_row, y_product};
 use pauli::corrupt::Corrupt;
 
+// The words and their sizes stay three parameters here, as in `frame` (frame/src/lib.rt).
+
 // The row x[q] or z[q].
 pub fn row_into(f: &[u64], n: usize, l: usize, basis: Basis, q: usize, out: &mut [u64])
     requires { Sized (2 * n) l f.now × (q < n) × (length out.old ≡ 2 * l + 1) }

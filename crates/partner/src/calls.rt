@@ -19,6 +19,7 @@ use store::refusals::{OpenError, Refusal};
 
 // ---- opening
 
+// The sizes stay parameters, as README has the call; `typed` has them as one plan.
 // Opens a store: n qubits, room for `events` events, `steps` steps for each look, the form of the lists, and four words of labels for each qubit (X high,
 // X low, Z high, Z low). Refuses with 1 (n, steps or form), 2 (events) or 3 (labels, or a slice below the need of docs/STORE.md).
 pub fn open(

@@ -122,6 +122,7 @@ fn sized(s: &[u64], n: usize, l: usize, form: Form) -> Result<(), Refusal>
     Ok(())
 }
 
+// No impl of From: the form is history's type and the word is std's.
 // The form that a word of the header says.
 fn form_at(word: u64) -> Form
     ensures { result ≡ form_at word }

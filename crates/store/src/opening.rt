@@ -23,6 +23,8 @@ fn too_wide(form: Form, n: usize) -> bool
     }
 }
 
+// The sizes stay parameters one by one here and below, as the public call has them (README); `typed` has them as one plan.
+
 // Whether an opening is accepted: "At opening 1, 2, 3".
 pub fn check_opening(
     n: usize,
@@ -50,6 +52,7 @@ pub fn check_opening(
     Ok(())
 }
 
+// No impl of From: the form is history's type and the word is std's.
 // The word of the header that says the form.
 fn form_code(form: Form) -> u64
     ensures { result ≡ form_code (form_of form) }

@@ -15,7 +15,7 @@ use store::refusals::{OpenError, Refusal};
 // ---- what is written
 
 // A line of the worked example, or one of the cases.
-#[derive(Clone, Copy)]
+#[derive(Clone, Copy, Debug, PartialEq, Eq)]
 enum Place {
     Line(u32),
     Case(u32),
@@ -38,7 +38,7 @@ fn opened(rt: &impl Print, at: Place, said: Result<(), OpenError>) -> io::Result
     }
 }
 
-// The same of a call that records nothing.
+// The same of a call that records nothing: a function of its own, since the two errors share no trait.
 fn done(rt: &impl Print, at: Place, said: Result<(), Refusal>) -> io::Result<()> {
     match said {
         Ok(()) => println!(rt; "{at} answer=0"),
@@ -165,7 +165,7 @@ fn y_after(rt: &impl Print, s: &mut [u64], at: Place, g: Gate, kind: Kind) -> io
     seen(rt, at, look(s, kind, 0))
 }
 
-// ---- cases 9 and 10: so many rotations about Z0, and a look for Z0
+// ---- cases 9 and 10: so many rotations about Z0, and a look for Z0. The parameters are what the cases differ in.
 
 fn searched(
     rt: &impl Print,
