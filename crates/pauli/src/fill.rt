@@ -10,10 +10,12 @@ pub fn clear(s: &mut [u64], at: usize, words: usize)
     s[at..at + words].fill(0);
 }
 
-// The words from `at` on become those of `of`.
+// The words from `at` on become those of `of`. No `copy_from_slice`: that would have the archive for C need `memmove` beside `memset`.
 pub fn copy(s: &mut [u64], at: usize, of: &[u64])
     requires { at + length of.now ≤ length s.old }
     ensures { Written s.old at (length of.now) (slice_index of.now) s.new }
 {
-    s[at..at + of.len()].copy_from_slice(of);
+    for (i, word) in of.iter().enumerate() {
+        s[at + i] = *word;
+    }
 }
