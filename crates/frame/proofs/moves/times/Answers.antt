@@ -25,9 +25,8 @@ multiply-odd-requires c =
 
 pub returns : goal.returns
 returns c = λ P L held.
-    let x = c.multiply-odd in
-    let mixed = rw (c.in_ok-p.ensures.phase.0, c.in_ok-q.ensures.phase.0) at c.mix.ensures in (
+    let x = c.multiply-odd in (
       refl,
       times_Rowed c.args.m c.args.l c.args.g c.args.k c.args.by x.result c.args.s.now x.new.frame _ P L c.requires.1 c.requires.2 c.requires.3
-          (λ i. (c.slice_known-1.given i).fits) held x.ensures.done x.ensures.crossed mixed,
+          (λ i. (c.slice_known-1.given i).fits) held x.ensures.done x.ensures.crossed c.mix.ensures,
     )

@@ -6,4 +6,4 @@ use Rattle.frame.proofs.moves.turn.Goals as goal
 pub returns : goal.returns
 returns c = λ P L held.
     let a = c.args in
-    (refl, rw c.in_ok-s.ensures.phase.0 (turned_Rowed a.m a.l a.g a.by a.s.now P L c.requires.1 held))
+    (refl, turned_Rowed a.m a.l a.g a.by a.s.now P L c.requires.1 held)
