@@ -14,5 +14,7 @@ pub mod Unique
 pub mod WriteLaws
 pub mod SignLaws
 pub mod Room
+-- What is told of the library's own refusals.
+pub mod Own
 -- Texts of 01, computed.
 pub mod Texts

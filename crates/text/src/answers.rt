@@ -2,13 +2,40 @@
 // (proofs/Room.antt, `spoken_room`). The answer is how many bytes were written.
 ghost use Rattle.model.specs.Calls.{refused, looked};
 ghost use Rattle.model.specs.Search.{found};
-ghost use Rattle.store.specs.Promises.{told, told_look, seen_of};
+ghost use Rattle.std.specs.Prelude.{◌≡◌, ℕ};
+ghost use Rattle.store.specs.Promises.{seen_of};
+ghost use Rattle.store.specs.Refusals.{code_of};
+ghost use Rattle.text.specs.Told.{told_by, seen_by};
 ghost use Rattle.text.specs.Wrote.{Wrote};
 ghost use Rattle.text.specs.Spoken.{replied, bad, not_opened, end, spoken};
 
 use super::writing::write_by;
 use history::findings::{Found, Look};
 use store::refusals::Refusal;
+
+// What an error is told by: the library's own refusals have the numbers 3 to 9, and a number is its own.
+pub trait Numbered {
+    ghost number_of: { Self → ℕ };
+
+    fn number(self) -> u32
+        ensures { result ≡ number_of self };
+}
+
+impl Numbered for Refusal {
+    ghost number_of = { λ e. code_of e };
+
+    fn number(self) -> u32 {
+        self.code()
+    }
+}
+
+impl Numbered for u32 {
+    ghost number_of = { λ k. k };
+
+    fn number(self) -> u32 {
+        self
+    }
+}
 
 // "A refused operation prints its answer alone."
 fn write_refusal(line: u64, number: u32, out: &mut [u8]) -> usize
@@ -20,8 +47,8 @@ fn write_refusal(line: u64, number: u32, out: &mut [u8]) -> usize
 }
 
 // What a call that writes gave back.
-pub fn write_answer(line: u64, a: Result<Option<usize>, Refusal>, out: &mut [u8]) -> usize
-    ensures { Wrote out.old 0 (spoken (replied line (told a))) out.new result }
+pub fn write_answer<E: Numbered>(line: u64, a: Result<Option<usize>, E>, out: &mut [u8]) -> usize
+    ensures { Wrote out.old 0 (spoken (replied line (told_by E.number_of a))) out.new result }
 {
     match a {
         Ok(None) => {
@@ -33,7 +60,7 @@ pub fn write_answer(line: u64, a: Result<Option<usize>, Refusal>, out: &mut [u8]
             let v = [line, id];
             write_by(b"line=# answer=0 id=#\n", &v, out)
         }
-        Err(e) => write_refusal(line, e.code(), out),
+        Err(e) => write_refusal(line, e.number(), out),
     }
 }
 
@@ -51,12 +78,12 @@ fn write_found(line: u64, first: usize, sign: i8, spent: u32, out: &mut [u8]) ->
 }
 
 // What a look said.
-pub fn write_sight(line: u64, s: Result<Look, Refusal>, out: &mut [u8]) -> usize
-    ensures { Wrote out.old 0 (spoken (replied line (told_look s))) out.new result }
+pub fn write_sight<E: Numbered>(line: u64, s: Result<Look, E>, out: &mut [u8]) -> usize
+    ensures { Wrote out.old 0 (spoken (replied line (seen_by E.number_of s))) out.new result }
 {
     match s {
         Ok(look) => write_seen(line, look, out),
-        Err(e) => write_refusal(line, e.code(), out),
+        Err(e) => write_refusal(line, e.number(), out),
     }
 }
 

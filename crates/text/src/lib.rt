@@ -6,6 +6,8 @@
 #![tactic(auto)]
 
 pub mod answers;
+#[cfg(test)]
+mod by_number;
 mod items;
 pub mod lines;
 pub mod shapes;
