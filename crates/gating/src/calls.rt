@@ -13,6 +13,7 @@ use store::qubits::check_qubits;
 use store::refusals::Refusal;
 
 // The gate's qubits are there and differ.
+#[tactic(auto, unfolding(crate::specs::Gates::gate_of, model::specs::Calls::gate_qubits))]
 fn check_gate(n: usize, g: Gate) -> Result<(), Refusal>
     ensures { number_of result ≡ qubit_number n (gate_qubits (gate_of g)) }
 {

@@ -52,7 +52,7 @@ pub fn act(f: &mut [u64], n: usize, l: usize, g: Gate) -> Result<(), Corrupt>
 }
 
 // The words and their sizes stay three parameters, as in `frame` (frame/src/lib.rt).
-// The turn by k of a kind is done to both frames.
+// The turn by k of a kind is done to both frames. p turns as z, in an arm of its own: a p by nothing is then one value changed (must-fail/p_by_nothing).
 pub fn turned(
     f: &mut [u64],
     n: usize,
@@ -67,6 +67,7 @@ pub fn turned(
     match kind {
         Kind::X => frame::gates::turn_x(f, n, l, k, q),
         Kind::Y => frame::gates::turn_y(f, n, l, k, q),
-        Kind::Z | Kind::P => frame::gates::turn_z(f, n, l, k, q),
+        Kind::Z => frame::gates::turn_z(f, n, l, k, q),
+        Kind::P => frame::gates::turn_z(f, n, l, k, q),
     }
 }

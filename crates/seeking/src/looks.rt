@@ -38,6 +38,7 @@ fn relative(id: usize, kept: i8, steps: u32, row: &[u64]) -> Result<Look, Refusa
 }
 
 // What the history saw of the row's axis taken with the sign +1, as what a look sees.
+#[tactic(auto, unfolding(crate::specs::Sights::sight_of, crate::specs::Sights::found_of, store::specs::Promises::told_look, store::specs::Promises::seen_of))]
 fn sight(seen: Look, row: &[u64]) -> Result<Look, Refusal>
     requires { length row.now % 2 ≡ 1 }
     ensures { (l : ℕ) (p : Pauli) → length row.now ≡ 2 * l + 1 → IsRow l row.now 0 p → HasSign p → SignSeen seen → told_look result ≡ sight_of (sign p) seen }

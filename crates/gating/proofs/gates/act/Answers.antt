@@ -1,4 +1,5 @@
 -- `gating::gates::act` meets its contract: each arm's function does the gate that the arm has found. Assumes nothing.
+use native.Mathlib.Omega.{arith}
 use Rattle.gating.specs.Gates.{gate_of}
 use Rattle.gating.proofs.gates.act.Goals as goal
 
@@ -32,7 +33,9 @@ gate_sx-requires c = (c.requires.0, rw c.in-Sx.is at c.requires.1)
 
 pub gate_cnot-requires : goal.gate_cnot-requires
 unfolding gate_of
-gate_cnot-requires c = let fits = rw c.in-Cnot.is at c.requires.1 in (c.requires.0, fits.0, fits.1, fits.2)
+gate_cnot-requires c =
+    let fits = rw c.in-Cnot.is at c.requires.1 in
+    (c.requires.0, omega (arith, fits.0, fits.1), omega (arith, fits.0, fits.1), λ e. fits.2 (omega (arith, e)))
 
 pub gate_cz-requires : goal.gate_cz-requires
 unfolding gate_of

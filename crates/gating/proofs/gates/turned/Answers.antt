@@ -1,5 +1,4 @@
--- `gating::gates::turned` meets its contract: each arm's function does the turn of the kind found; z and p turn alike. Assumes nothing.
-use mathlib.Core.Logic.{inl, inr}
+-- `gating::gates::turned` meets its contract: each arm's function does the turn of the kind found. Assumes nothing.
 use Rattle.model.specs.Frame.{turn}
 use Rattle.frame.specs.Axes.{kind_of}
 use Rattle.gating.proofs.gates.turned.Goals as goal
@@ -14,4 +13,8 @@ returns-in-Y c = rw c.in-Y.is c.turn_y.ensures
 
 pub returns-in-Z : goal.returns-in-Z
 unfolding kind_of turn
-returns-in-Z c = elim c.in-Z.is [ inl e ↦ rw e c.turn_z.ensures | inr e ↦ rw e c.turn_z.ensures ]
+returns-in-Z c = rw c.in-Z.is c.turn_z.ensures
+
+pub returns-in-P : goal.returns-in-P
+unfolding kind_of turn
+returns-in-P c = rw c.in-P.is c.turn_z-in-P.ensures

@@ -1,4 +1,5 @@
 -- `partner::calls::apply` meets its contract: each arm is the call. Assumes nothing.
+use Rattle.std.proofs.lemmas.Result.{err_from_is_err_and}
 use Rattle.partner.specs.Calls.{call_in}
 use Rattle.partner.proofs.calls.apply.Goals as goal
 
@@ -34,6 +35,12 @@ pub returns-in-Kill : goal.returns-in-Kill
 unfolding call_in
 returns-in-Kill c = rw (c.in-Kill.is, c.without_event-in-Kill.ensures) c.kill.ensures
 
-pub returns-in-Clear : goal.returns-in-Clear
+pub returns-in_err-clear-in-Clear : goal.returns-in_err-clear-in-Clear
 unfolding call_in
-returns-in-Clear c = rw (c.in-Clear.is, c.without_event-in-Clear.ensures) c.clear.ensures
+returns-in_err-clear-in-Clear c =
+    let p = err_from_is_err_and c.from_residual.result c.from_residual.ensures.1 in
+    rw (c.in-Clear.is, p.1, p.2) (rw c.in_err-clear-in-Clear.was at c.clear.ensures)
+
+pub returns-in_ok-clear-in-Clear : goal.returns-in_ok-clear-in-Clear
+unfolding call_in
+returns-in_ok-clear-in-Clear c = rw c.in-Clear.is (rw c.in_ok-clear-in-Clear.was at c.clear.ensures)

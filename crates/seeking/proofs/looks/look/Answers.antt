@@ -1,4 +1,5 @@
 -- `seeking::looks::look` meets its contract: by what the header told, and by the look. Assumes nothing.
+use native.Mathlib.Omega.{arith}
 use Rattle.std.proofs.lemmas.Result.{err_from_is_err_and}
 use Rattle.model.specs.Calls.{call_look}
 use Rattle.frame.specs.Axes.{kind_of}
@@ -16,7 +17,7 @@ returns-in_err-check c =
 
 pub returns-then-z-q : goal.returns-then-z-q
 unfolding told_look
-returns-then-z-q c = look_out c.sizes_of-z.result c.args.s.now c.sizes_of-z.ensures (kind_of c.args.kind) c.args.q c.if-z-q.true
+returns-then-z-q c = look_out c.sizes_of-z.result c.args.s.now c.sizes_of-z.ensures (kind_of c.args.kind) c.args.q (omega (arith, c.if-z-q.true))
 
 pub returns : goal.returns
 returns c =
