@@ -1,4 +1,4 @@
--- A loop over the set digits of a word, lowest first: `while w != 0 { let p = lowest(w); ..; w = rest(w); }`. Its measure is w.
+-- A loop over the set digits of a word, lowest first: `for p in bits(w) { .. }`, which takes `lowest` and `rest` of w in turn. Its measure is w.
 -- `Passed P w₀ w`: P holds of each set digit of w₀ that the walk, with w left to do, digit passed.
 --     passed_none    where the loop begins
 --     Passed-more    a turn, with P of the digit that it took

@@ -1,4 +1,4 @@
-// Each call once, with the rule book's values: its worked example (examples/worked.job), and its cases 6, 11 and 12 as far as the calls go.
+// Each call once, with the rule book's values: its worked example (examples/worked.job), and its cases 6 and 11 as far as the calls go.
 use crate::ids::EventId;
 use crate::looks::{Found, Look};
 use crate::refusals::Refusal;
