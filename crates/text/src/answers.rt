@@ -25,7 +25,7 @@ impl Numbered for Refusal {
     ghost number_of = { λ e. code_of e };
 
     fn number(self) -> u32 {
-        self.code()
+        Refusal::code(self)
     }
 }
 
