@@ -148,8 +148,11 @@ pub fn last(t: Talk, out: &mut [u8]) -> usize
     if line > MAX_LINES {
         return 0;
     }
+    if t.held > 0 {
+        return write_bad(line + 1, out);
+    }
     match t.stage {
-        Stage::Running { events, live } if t.held == 0 => write_end(line, events, live, out),
+        Stage::Running { events, live } => write_end(line, events, live, out),
         _ => write_bad(line + 1, out),
     }
 }
